@@ -1,0 +1,9 @@
+-- Document 01 as definitions, in its order; `Cases` has its worked cases, proved.
+pub mod Vectors
+pub mod Solids
+pub mod Asked
+pub mod Walk
+pub mod Pick
+pub mod Decimals
+pub mod Display
+pub mod Cases

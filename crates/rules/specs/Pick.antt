@@ -1,0 +1,55 @@
+-- Document 01, "Refusal numbers, in the order they are judged": the pick, its answer and its promise, for every input.
+-- These are definitions: nothing here is proved.
+use mathlib.Core.Path.{_≡_}
+use mathlib.Core.Bool.{Bool, true, false}
+use mathlib.Core.List.{List, []}
+use Prim.Native.Nat.{ℕ}
+use lib.IntN.{ℤ, pos, natAbs}
+use lib.ListN.{length}
+use Rattle.rules.specs.declared.Vector.{Vector}
+use Rattle.rules.specs.declared.Wedge.{Wedge}
+use Rattle.rules.specs.declared.Stack.{Stack}
+use Rattle.rules.specs.declared.Solid.{Solid}
+use Rattle.rules.specs.declared.Solid.the-variants.{Wedge as IsWedge, Stack as IsStack}
+use Rattle.rules.specs.declared.Look.{Look}
+use Rattle.rules.specs.declared.Look.the-variants.{Filled, Empty, Outside}
+use Rattle.rules.specs.declared.Pick.{Pick}
+use Rattle.rules.specs.declared.Pick.the-variants.{Accepted, Refused}
+use Rattle.rules.specs.Vectors.{_⊕_, origin}
+use Rattle.rules.specs.Solids.{between, permitted, look}
+use Rattle.rules.specs.Asked.{Asked, answered, refused, _>>=_, _>>_}
+use Rattle.rules.specs.Walk.{Stop, stop, ensure, signs, Found, start, rounds}
+
+unfoldable pub isInside : Look → Bool
+isInside Filled = true
+isInside Empty = true
+isInside Outside = false
+
+-- over any solid: whether it is permitted, and its look
+unfoldable pub pick : Bool → (Vector → Look) → Vector → ℤ → ℤ → Asked Stop Found
+pick permitted look p frame reach =
+    let s = signs (natAbs frame) in
+    let q = p ⊕ s in do
+      ensure (between (pos 3) reach (pos 256)) (stop 1 origin 0)
+      ensure (between (pos 0) frame (pos 7)) (stop 2 origin 0)
+      ensure permitted (stop 3 origin 0)
+      ensure (isInside (look p)) (stop 4 p 0)
+      ensure (isInside (look q)) (stop 4 q 0)
+      start look s p q (natAbs reach)
+      rounds look s q (natAbs reach)
+
+-- the answer's two cases: accepted with its record, or refused with number, place and counts
+unfoldable pub answer : Asked Stop Found → Pick
+answer (answered f t) = Accepted record { normal = f .normal; triangle = f .triangle; apex = f .apex; steps = f .steps; looks = length t }
+answer (refused r t) = Refused record { number = r .number; place = r .place; steps = r .steps; looks = length t }
+
+-- a pick of a solid with its lent bytes
+unfoldable pub pickOf : Solid → List ℕ → Vector → ℤ → ℤ → Pick
+pickOf solid bytes p frame reach = answer (pick (permitted solid bytes) (look solid bytes) p frame reach)
+
+-- ---- the promises of the two entry points
+pub record WedgePromise (wedge : Wedge) (p : Vector) (frame reach : ℤ) (r : Pick) : Type 0 where
+  pub is : r ≡ pickOf (IsWedge wedge) [] p frame reach
+
+pub record StackPromise (stack : Stack) (bytes : List ℕ) (p : Vector) (frame reach : ℤ) (r : Pick) : Type 0 where
+  pub is : r ≡ pickOf (IsStack stack) bytes p frame reach

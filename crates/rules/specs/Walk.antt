@@ -1,0 +1,212 @@
+-- Document 01, "The probing walk", in its order and words, over any solid: the walk knows a solid by its look alone.
+-- These are definitions: nothing here is proved.
+use mathlib.Core.Bool.{Bool, true, false, not, _||_}
+use mathlib.Core.List.{List, [], _∷_}
+use Prim.Native.Nat.{ℕ, zero, suc, _+_, _-_, _/_, _%_}
+use lib.IntN.{ℤ, pos, negsuc}
+use lib.Signed.{ltZ}
+use lib.Dec.{leb}
+use Rattle.rules.specs.declared.Vector.{Vector}
+use Rattle.rules.specs.declared.Look.{Look}
+use Rattle.rules.specs.declared.Look.the-variants.{Filled, Empty, Outside}
+use Rattle.rules.specs.declared.Triangle.{Triangle}
+use Rattle.rules.specs.declared.Pair.{Pair}
+use Rattle.rules.specs.declared.Pair.the-variants.{P01, P02, P10, P12, P20, P21}
+use Rattle.rules.specs.declared.Choice.{Choice}
+use Rattle.rules.specs.declared.Choice.the-variants.{Nothing, Chosen}
+use Rattle.rules.specs.Vectors.{vector, _⊕_, _⊖_, minus, scale, cross, sphere, lay, size, unit0, unit1, unit2}
+use Rattle.rules.specs.Asked.{Asked, answered, refused, _>>=_, _>>_}
+
+-- a pick's refusal: its number, the place returned and the steps so far
+pub record Stop : Type 0 where
+  pub number : ℕ
+  pub place : Vector
+  pub steps : ℕ
+
+abbrev pub stop : ℕ → Vector → ℕ → Stop
+stop number place steps = record { number = number; place = place; steps = steps }
+
+-- go on if the test holds, else refuse
+unfoldable pub ensure : Bool → Stop → Asked Stop (Unit {0})
+ensure true r = answered tt []
+ensure false r = refused r []
+
+-- ---- Frame 0 to 7: bit 0, 1, 2 set means that axis 0, 1, 2 has sign -1, otherwise +1
+unfoldable pub sign : ℕ → ℤ
+sign zero = pos 1
+sign (suc n) = negsuc 0
+
+unfoldable pub signs : ℕ → Vector
+signs frame = vector (sign (frame % 2)) (sign (frame / 2 % 2)) (sign (frame / 4 % 2))
+
+-- ---- A look asks whether one voxel in the box is filled. A point outside is not counted
+unfoldable pub seen : Look → Vector → Asked Vector Bool
+seen Filled p = answered true (p ∷ [])
+seen Empty p = answered false (p ∷ [])
+seen Outside p = refused p []
+
+-- a point outside the box ends the pick with refusal 8
+unfoldable pub asked : {A : Type 0} → ℕ → Asked Vector A → Asked Stop A
+asked steps (answered a t) = answered a t
+asked steps (refused p t) = refused (stop 8 p steps) t
+
+-- ---- The powers are 1, 2, 4, .. up to the first that is at least R. From l on; theorem `powers-reach`: the first argument never runs out before that one
+unfoldable pub powersFrom : ℕ → ℕ → ℕ → List ℕ
+powersFrom zero l R = l ∷ []
+powersFrom (suc fuel) l R = l ∷ (elim (leb R l) [ true ↦ [] | false ↦ powersFrom fuel (l + l) R ])
+
+unfoldable pub powers : ℕ → List ℕ
+powers R = powersFrom R 1 R
+
+-- ---- the triangle vectors, and the six pairs (k, l) in the order in which they are asked
+abbrev pub triangle : Vector → Vector → Vector → Triangle
+triangle a b c = record { m0 = a; m1 = b; m2 = c }
+
+abbrev pub units : Triangle
+units = triangle unit0 unit1 unit2
+
+abbrev pub pairs : List Pair
+pairs = P01 ∷ P02 ∷ P10 ∷ P12 ∷ P20 ∷ P21 ∷ []
+
+-- m_k
+abbrev pub first : Triangle → Pair → Vector
+first m P01 = m .m0
+first m P02 = m .m0
+first m P10 = m .m1
+first m P12 = m .m1
+first m P20 = m .m2
+first m P21 = m .m2
+
+-- m_l
+abbrev pub second : Triangle → Pair → Vector
+second m P01 = m .m1
+second m P02 = m .m2
+second m P10 = m .m0
+second m P12 = m .m2
+second m P20 = m .m0
+second m P21 = m .m1
+
+-- m_l - m_k, of which a pair asks whether it falls
+abbrev pub way : Triangle → Pair → Vector
+way m x = second m x ⊖ first m x
+
+-- the triangle with a in the place of m_k
+abbrev pub with : Triangle → Pair → Vector → Triangle
+with m P01 a = triangle a (m .m1) (m .m2)
+with m P02 a = triangle a (m .m1) (m .m2)
+with m P10 a = triangle (m .m0) a (m .m2)
+with m P12 a = triangle (m .m0) a (m .m2)
+with m P20 a = triangle (m .m0) (m .m1) a
+with m P21 a = triangle (m .m0) (m .m1) a
+
+-- a step: replace m_k by m_k - m_l
+abbrev pub step : Triangle → Pair → Triangle
+step m x = with m x (first m x ⊖ second m x)
+
+-- the sum of the cross products m0×m1, m1×m2, m2×m0
+unfoldable pub normal : Triangle → Vector
+normal m = cross (m .m0) (m .m1) ⊕ cross (m .m1) (m .m2) ⊕ cross (m .m2) (m .m0)
+
+-- ---- Choice. The corners are v_k = q - m_k and the candidate of (k, l) is q + m_l - m_k, so the rows v1 - v0, v2 - v0, x - v0, y - v0 are these
+unfoldable pub determinant : Triangle → Pair → Pair → ℤ
+determinant m x y = sphere (m .m0 ⊖ m .m1) (m .m0 ⊖ m .m2) (m .m0 ⊕ way m x) (m .m0 ⊕ way m y)
+
+-- y is strictly inside the sphere through the triangle and x exactly if it is negative (x is never inside its own: theorem `not-inside-itself`)
+unfoldable pub inside : Triangle → Pair → Pair → Bool
+inside m x y = ltZ (determinant m x y) (pos 0)
+
+unfoldable pub anyInside : Triangle → Pair → List Pair → Bool
+anyInside m x [] = false
+anyInside m x (y ∷ ys) = inside m x y || anyInside m x ys
+
+-- the first of xs whose sphere has no pair of falling inside
+unfoldable pub firstFree : Triangle → List Pair → List Pair → Choice
+firstFree m falling [] = Nothing
+firstFree m falling (x ∷ xs) = elim (anyInside m x falling) [ false ↦ Chosen x | true ↦ firstFree m falling xs ]
+
+-- the first falling pair whose sphere has no other falling candidate strictly inside. Nothing only if none falls: theorem `choice-exists`
+unfoldable pub choice : Triangle → List Pair → Choice
+choice m falling = firstFree m falling falling
+
+-- the pairs that fall, with one more if it falls
+unfoldable pub keep : Bool → Pair → List Pair → List Pair
+keep true x xs = x ∷ xs
+keep false x xs = xs
+
+-- the walk of one solid
+module _ (look : Vector → Look) where
+  unfoldable pub lookAt : Vector → Asked Vector Bool
+  lookAt p = seen (look p) p
+
+  -- about the apex q
+  module _ (q : Vector) where
+    -- a vector u, laid in, falls if q + l·u is filled for some power l. Powers are looked at upward and asking stops at the first filled one
+    unfoldable pub falls : Vector → List ℕ → Asked Vector Bool
+    falls u [] = answered false []
+    falls u (l ∷ ls) = do
+      f ← lookAt (q ⊕ scale (pos l) u)
+      elim f [ true ↦ answered true [] | false ↦ falls u ls ]
+
+    -- in the frame of the signs s, with the powers ls
+    module _ (s : Vector) (ls : List ℕ) where
+      -- 2. for axis 0, 1, 2 ask whether minus the unit vector falls
+      unfoldable pub axes : List Vector → Asked Stop (Unit {0})
+      axes [] = answered tt []
+      axes (e ∷ es) = do
+        f ← asked 0 (falls (lay s (minus e)) ls)
+        ensure f (stop 7 (q ⊕ lay s (minus e)) 0)
+        axes es
+
+      -- 4. all pairs are asked, even after one has fallen
+      unfoldable pub falling : Triangle → List Pair → Asked Vector (List Pair)
+      falling m [] = answered [] []
+      falling m (x ∷ xs) = do
+        f ← falls (lay s (way m x)) ls
+        r ← falling m xs
+        answered (keep f x r) []
+
+      -- a round: the pair to step by, if one falls
+      unfoldable pub round : Triangle → Asked Vector Choice
+      round m = do
+        fs ← falling m pairs
+        answered (choice m fs) []
+
+      -- 5, 6. the rounds after n steps, with `left` steps more allowed
+      unfoldable pub walk : ℕ → ℕ → Triangle → Asked Stop (Triangle × ℕ)
+      walk zero n m = do
+        c ← asked n (round m)
+        elim c [ Nothing ↦ answered (m, n) [] | Chosen x ↦ refused (stop 9 q n) [] ]
+      walk (suc left) n m = do
+        c ← asked n (round m)
+        elim c [ Nothing ↦ answered (m, n) [] | Chosen x ↦ walk left (suc n) (step m x) ]
+
+-- what the walk's end returns, laid into the box
+pub record Found : Type 0 where
+  pub normal : Vector
+  pub triangle : Triangle
+  pub apex : Vector
+  pub steps : ℕ
+
+unfoldable pub found : Vector → Vector → Triangle × ℕ → Found
+found s q e = record {
+  normal = lay s (normal (e .0));
+  triangle = triangle (lay s (e .0 .m0)) (lay s (e .0 .m1)) (lay s (e .0 .m2));
+  apex = q;
+  steps = e .1;
+}
+
+-- 1. look at p, then, if p is filled, q; 2. the axes
+unfoldable pub start : (Vector → Look) → Vector → Vector → Vector → ℕ → Asked Stop (Unit {0})
+start look s p q R = do
+  f ← asked 0 (lookAt look p)
+  ensure f (stop 5 p 0)
+  g ← asked 0 (lookAt look q)
+  ensure (not g) (stop 6 q 0)
+  axes look q s (powers R) (unit0 ∷ unit1 ∷ unit2 ∷ [])
+
+-- 3. begin with the unit vectors and zero steps; refusal 10 at the end
+unfoldable pub rounds : (Vector → Look) → Vector → Vector → ℕ → Asked Stop Found
+rounds look s q R = do
+  e ← walk look q s (powers R) (R - 3) 0 units
+  ensure (leb (size (normal (e .0))) R) (stop 10 q (e .1))
+  answered (found s q e) []

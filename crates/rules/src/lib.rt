@@ -1,0 +1,94 @@
+// The types that document 01's definitions, in `specs/`, and the code above them share. There is no code here.
+
+// A vector, a voxel or a place.
+pub struct Vector {
+    pub x: i32,
+    pub y: i32,
+    pub z: i32,
+}
+
+// ---- solids
+
+pub struct Wedge {
+    pub a: i32,
+    pub b: i32,
+    pub c: i32,
+    pub h: i32,
+}
+
+// The bytes of a stack are lent beside it.
+pub struct Stack {
+    pub width: i32,
+    pub height: i32,
+    pub depth: i32,
+}
+
+pub enum Solid {
+    Wedge(Wedge),
+    Stack(Stack),
+}
+
+pub enum Look {
+    Filled,
+    Empty,
+    Outside,
+}
+
+// ---- the walk
+
+pub struct Triangle {
+    pub m0: Vector,
+    pub m1: Vector,
+    pub m2: Vector,
+}
+
+// The pair (k, l).
+pub enum Pair {
+    P01,
+    P02,
+    P10,
+    P12,
+    P20,
+    P21,
+}
+
+pub enum Choice {
+    Nothing,
+    Chosen(Pair),
+}
+
+// ---- the pick's answer
+
+pub struct Accepted {
+    pub normal: Vector,
+    pub triangle: Triangle,
+    pub apex: Vector,
+    pub steps: u32,
+    pub looks: u32,
+}
+
+pub struct Refused {
+    pub number: u32,
+    pub place: Vector,
+    pub steps: u32,
+    pub looks: u32,
+}
+
+pub enum Pick {
+    Accepted(Accepted),
+    Refused(Refused),
+}
+
+// ---- the display normal's answer
+
+// Three components for the shader.
+pub struct Light {
+    pub x: f32,
+    pub y: f32,
+    pub z: f32,
+}
+
+pub enum Display {
+    Lit(Light),
+    Unlit(u32),
+}
