@@ -65,7 +65,7 @@ pub fn lay(s: Vector, a: Vector) -> Vector
 
 fn part_size(x: i32) -> u32
     requires { ⌜ Within 1000000000 x ⌝ }
-    ensures { λ r. ⌜ r ≡ natAbs x ⌝ }
+    ensures { λ r. ⌜ (r ≡ natAbs x) × (r ≤ 1000000000) ⌝ }
 {
     if x < 0 { (-x) as u32 } else { x as u32 }
 }
@@ -81,13 +81,20 @@ pub fn size(a: Vector) -> u32
     x + y + z
 }
 
+fn multiply(a: i32, b: i32) -> i64
+    requires { ⌜ Within 1000000000 a × Within 1000000000 b ⌝ }
+    ensures { λ r. ⌜ r ≡ a *ℤ b ⌝ }
+{
+    (a as i64) * (b as i64)
+}
+
 pub fn dot(a: Vector, b: Vector) -> i64
     requires { ⌜ Bounded 1000000000 a × Bounded 1000000000 b ⌝ }
     ensures { λ r. ⌜ r ≡ dot a b ⌝ }
 {
-    let x = (a.x as i64) * (b.x as i64);
-    let y = (a.y as i64) * (b.y as i64);
-    let z = (a.z as i64) * (b.z as i64);
+    let x = multiply(a.x, b.x);
+    let y = multiply(a.y, b.y);
+    let z = multiply(a.z, b.z);
     x + y + z
 }
 
