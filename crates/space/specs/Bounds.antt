@@ -9,7 +9,7 @@ use lib.Dec.{T, leb, leb→le}
 use mir.Facts.{and-yes}
 use lib.IntN.{ℤ, negℤ, _+ℤ_, _-ℤ_, _*ℤ_}
 use Rattle.integers.specs.Sizes.{Within, within-sum, within-product, within-opposite, within-wider}
-use Rattle.integers.specs.Machine.{Reads, Stands, as-it-is, through, through-both, machine}
+use Rattle.integers.specs.Machine.{Reads, Stands, as-it-is, through, through-both, known-stands, machine}
 use Rattle.rules.specs.declared.Vector.{Vector}
 use Rattle.rules.specs.Vectors.{vector, _⊕_, _⊖_, minus, scale, dot, cross, lay}
 
@@ -97,16 +97,10 @@ module _ {a b : Vector} (p : Known a) (q : Known b) where
   dot-stands = record { read = through-both dot (p .read) (q .read); bound = p .bound * q .bound + p .bound * q .bound + p .bound * q .bound; sized = within-dot (p .sized) (q .sized) }
 
 -- a call's result
-abbrev equal-reads : {A : Type 0} {r a : A} → r ≡ a → Reads a → Reads r
-equal-reads e p = record { plain = p .plain; passes = p .passes; reads = λ t. e ∙ p .reads t }
+abbrev pub result-known : {r a : Vector} → r ≡ a → Known a → Known r
+result-known e p = record { read = record { plain = p .read .plain; passes = p .read .passes; reads = λ t. e ∙ p .read .reads t }; bound = p .bound; sized = p .sized }
 
-abbrev pub equal-known : {r a : Vector} → r ≡ a → Known a → Known r
-equal-known e p = record { read = equal-reads e (p .read); bound = p .bound; sized = p .sized }
-
-abbrev pub equal-stands : {r z : ℤ} → r ≡ z → Stands z → Stands r
-equal-stands e p = record { read = equal-reads e (p .read); bound = p .bound; sized = p .sized }
-
-pub ruleset measured = (machine, bounded-known, opposite-known, scale-known, sum-known, difference-known, lay-known, cross-known, dot-stands, equal-known, equal-stands)
+pub ruleset measured = (machine, bounded-known, opposite-known, scale-known, sum-known, difference-known, lay-known, cross-known, dot-stands, result-known, known-stands)
 
 pub bounded : {n : ℕ} {a : Vector} (p : Known a) → T (p .read .passes && leb (p .bound) n) → Bounded n a
 bounded {n} p t =

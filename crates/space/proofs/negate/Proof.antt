@@ -1,6 +1,4 @@
--- Each part's operation fits by the bound that `negate` requires. The machine's -x is 0 - x.
-use mathlib.Core.Path.{_∙_}
-use lib.IntN.{+ℤ-idl}
+-- Each part's operation fits by the bounds that `negate` requires, and gives the definition's part.
 use Rattle.integers.specs.Machine.{machine, fits, value}
 use Rattle.rules.specs.Vectors.{minus}
 use Rattle.space.proofs.Parts.{by-parts}
@@ -9,7 +7,7 @@ use Rattle.space.proofs.negate.Tie as tie
 
 returns : tie.Need-returns
 unfolding minus
-returns c = by-parts (value (search machine depth 30 fits 5000) tt ∙ +ℤ-idl _) (value (search machine depth 30 fits 5000) tt ∙ +ℤ-idl _) (value (search machine depth 30 fits 5000) tt ∙ +ℤ-idl _)
+returns c = by-parts (value (search machine depth 30 fits 5000) tt) (value (search machine depth 30 fits 5000) tt) (value (search machine depth 30 fits 5000) tt)
 
 pub negate-spec : {M : Type 1} → statement M
 negate-spec =

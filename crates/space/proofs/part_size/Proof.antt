@@ -1,19 +1,14 @@
 -- A number below 0 has the size of its opposite, and a cast to an unsigned number keeps the size.
-use mathlib.Core.Path.{_≡_, refl, ap, _∙_}
-use Prim.Native.Nat.{ℕ, zero, suc, _≤_}
+use mathlib.Core.Path.{_≡_, _∙_}
+use Prim.Native.Nat.{ℕ, _≤_}
 use native.Mathlib.Omega.{arith}
-use lib.IntN.{ℤ, pos, negsuc, negℤ, natAbs, +ℤ-idl}
+use lib.IntN.{ℤ, natAbs}
 use mir.Facts.{toZ-ofZ}
 use Rattle.integers.specs.Order.{parts, linear, atom, goal}
-use Rattle.integers.specs.Sizes.{Within}
+use Rattle.integers.specs.Sizes.{Within, opposite-size}
 use Rattle.integers.specs.Machine.{machine, tests, fits, fits-unsigned, value}
 use Rattle.space.proofs.part_size.Statement.{statement}
 use Rattle.space.proofs.part_size.Tie as tie
-
-opposite-size : (x : ℤ) → natAbs (negℤ x) ≡ natAbs x
-opposite-size (pos zero) = refl
-opposite-size (pos (suc n)) = refl
-opposite-size (negsuc n) = refl
 
 -- a result that has the size of x
 part : {x : ℤ} {r : ℕ} → Within 1000000000 x → r ≡ natAbs x → (r ≡ natAbs x) × (r ≤ 1000000000)
@@ -35,5 +30,5 @@ part-size-spec =
     (λ c. fits (search machine depth 30 fits 5000) tt)
     cast-result
     cast-result-2
-    (λ c. let x = c .before .args .x in part (c .before .pre) (value (search machine depth 30 fits 5000) tt ∙ ap natAbs (+ℤ-idl (negℤ x)) ∙ opposite-size x))
+    (λ c. let x = c .before .args .x in part (c .before .pre) (value (search machine depth 30 fits 5000) tt ∙ opposite-size x))
     (λ c. part (c .before .pre) (value (search machine depth 30 fits 5000) tt)))
