@@ -3,7 +3,7 @@ ghost use mathlib.Core.Path.{_≡_};
 ghost use Prim.Native.Nat.{_≤_};
 ghost use Rattle.rules.specs.Solids.{between, permittedWedge, permittedStack, permitted, rowBytes, stackBytes, filledWedge, filledStack, voxel, box, inSide, inBox, filled, look};
 ghost use Rattle.space.specs.Bounds.{Bounded};
-ghost use Rattle.solid.specs.Asks.{WedgeAsks, SizesAsk, VoxelAsks, StackAsks, Permitted, Inside};
+ghost use Rattle.solid.specs.Asks.{Permitted, Inside, WedgeAsks, sizesPermitted, SizesAsk, VoxelAsks, StackAsks};
 use rules::Look;
 use rules::Solid;
 use rules::Stack;
@@ -12,23 +12,26 @@ use rules::Wedge;
 
 // ---- what is permitted
 
+// Here and below `&` and not `&&`: no branch.
 pub fn is_between(low: i32, x: i32, high: i32) -> bool
     ensures { λ r. ⌜ r ≡ between low x high ⌝ }
 {
-    low <= x && x <= high
+    (low <= x) & (x <= high)
 }
 
 fn is_permitted_wedge(w: Wedge) -> bool
     ensures { λ r. ⌜ r ≡ permittedWedge w ⌝ }
 {
-    is_between(-1000, w.a, 1000)
-        && (is_between(-1000, w.b, 1000)
-            && (is_between(-1000, w.c, 1000) && is_between(-4000000, w.h, 4000000)))
+    let a = is_between(-1000, w.a, 1000);
+    let b = is_between(-1000, w.b, 1000);
+    let c = is_between(-1000, w.c, 1000);
+    let h = is_between(-4000000, w.h, 4000000);
+    a & (b & (c & h))
 }
 
 pub fn row_bytes(width: usize) -> usize
     requires { ⌜ width ≤ 256 ⌝ }
-    ensures { λ r. ⌜ r ≡ rowBytes width ⌝ }
+    ensures { λ r. ⌜ (r ≡ rowBytes width) × (r ≤ 32) ⌝ }
 {
     (width + 7) / 8
 }
@@ -44,13 +47,24 @@ pub fn stack_bytes(k: Stack) -> usize
     depth * (height * row)
 }
 
+fn has_sizes(k: Stack) -> bool
+    ensures { λ r. ⌜ r ≡ sizesPermitted k ⌝ }
+{
+    let width = is_between(1, k.width, 256);
+    let height = is_between(1, k.height, 256);
+    let depth = is_between(1, k.depth, 256);
+    width & (height & depth)
+}
+
 // The sizes are judged before they are multiplied.
 fn is_permitted_stack(k: Stack, bytes: &[u8]) -> bool
     ensures { λ r. ⌜ r ≡ permittedStack k (now (bytes .entry)) ⌝ }
 {
-    is_between(1, k.width, 256)
-        && (is_between(1, k.height, 256)
-            && (is_between(1, k.depth, 256) && stack_bytes(k) <= bytes.len()))
+    if has_sizes(k) {
+        stack_bytes(k) <= bytes.len()
+    } else {
+        false
+    }
 }
 
 pub fn is_permitted(s: Solid, bytes: &[u8]) -> bool
@@ -67,13 +81,16 @@ pub fn is_permitted(s: Solid, bytes: &[u8]) -> bool
 fn is_in_side(side: i32, x: i32) -> bool
     ensures { λ r. ⌜ r ≡ inSide side x ⌝ }
 {
-    0 <= x && x < side
+    (0 <= x) & (x < side)
 }
 
 fn is_in_box(sides: Vector, p: Vector) -> bool
     ensures { λ r. ⌜ r ≡ inBox sides p ⌝ }
 {
-    is_in_side(sides.x, p.x) && (is_in_side(sides.y, p.y) && is_in_side(sides.z, p.z))
+    let x = is_in_side(sides.x, p.x);
+    let y = is_in_side(sides.y, p.y);
+    let z = is_in_side(sides.z, p.z);
+    x & (y & z)
 }
 
 fn box_of(s: Solid) -> Vector
