@@ -4,7 +4,7 @@ use mathlib.Core.Path.{_≡_, _∙_}
 use mathlib.Core.Bool.{Bool, _&&_}
 use lib.IntN.{ℤ}
 use Rattle.integers.specs.Machine.{Reads, Stands, through-both, machine, typed}
-use Rattle.rules.specs.Solids.{between, inSide}
+use Rattle.rules.specs.Solids.{between}
 
 abbrev pub and-reads : {a b : Bool} → Reads a → Reads b → Reads (a && b)
 and-reads p q = through-both _&&_ p q

@@ -8,7 +8,6 @@ use lib.Signed.{nonNeg, _≤ℤ_, _<ℤ_}
 use mir.Syntax.{w32, w64}
 use mir.Val.{Fits, toZ, ofZ}
 use Rattle.integers.specs.Order.{parts}
-use Rattle.integers.specs.Sizes.{Within}
 use Rattle.integers.specs.Machine.{machine, fits-unsigned, value}
 use Rattle.solid.specs.Asks.{Small, Along}
 

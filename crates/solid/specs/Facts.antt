@@ -18,8 +18,7 @@ use Rattle.rules.specs.declared.Wedge.{Wedge}
 use Rattle.rules.specs.declared.Stack.{Stack}
 use Rattle.rules.specs.declared.Solid.{Solid}
 use Rattle.rules.specs.declared.Solid.the-variants.{Wedge as IsWedge, Stack as IsStack}
-use Rattle.rules.specs.declared.Look.{Look}
-use Rattle.rules.specs.declared.Look.the-variants.{Filled, Empty, Outside}
+use Rattle.rules.specs.declared.Look.the-variants.{Filled, Empty}
 use Rattle.rules.specs.Vectors.{_⊖_}
 use Rattle.rules.specs.Solids.{between, permittedWedge, permittedSize, permittedStack, stackBytes, box, inSide, inBox, filled, seenAs, look}
 use Rattle.rules.specs.Pick.{isInside}
@@ -79,28 +78,28 @@ wedge-asks {w} h =
     }
 
 -- the three sizes' tests of a stack
-pub record Sizes (k : Stack) : Type 0 where
-  pub width-is : permittedSize (k .width) ≡ true
-  pub height-is : permittedSize (k .height) ≡ true
-  pub depth-is : permittedSize (k .depth) ≡ true
+record SizeTests (k : Stack) : Type 0 where
+  width-is : permittedSize (k .width) ≡ true
+  height-is : permittedSize (k .height) ≡ true
+  depth-is : permittedSize (k .depth) ≡ true
 
-sizes-are : {k : Stack} → sizesPermitted k ≡ true → Sizes k
+sizes-are : {k : Stack} → sizesPermitted k ≡ true → SizeTests k
 unfolding sizesPermitted
 sizes-are e = let a = split _ _ e in let b = split _ _ (a .1) in record { width-is = a .0; height-is = b .0; depth-is = b .1 }
 
 pub sizes-ask : {k : Stack} → sizesPermitted k ≡ true → SizesAsk k
 sizes-ask e = let s = sizes-are e in record { width-in = size-small _ (s .width-is); height-in = size-small _ (s .height-is); depth-in = size-small _ (s .depth-is) }
 
-stack-is : {k : Stack} {bytes : List ℕ} → Permitted (IsStack k) bytes → Sizes k × (leb (stackBytes k) (length bytes) ≡ true)
+stack-is : {k : Stack} {bytes : List ℕ} → Permitted (IsStack k) bytes → SizeTests k × (leb (stackBytes k) (length bytes) ≡ true)
 stack-is {k} {bytes} h = let s = split _ _ (sym (permitted-stack k bytes) ∙ h .is) in (sizes-are (s .0), s .1)
 
 -- the three sides' tests of a point of the box
-pub record Within-sides (sides p : Vector) : Type 0 where
-  pub along-x : inSide (sides .x) (p .x) ≡ true
-  pub along-y : inSide (sides .y) (p .y) ≡ true
-  pub along-z : inSide (sides .z) (p .z) ≡ true
+record SideTests (sides p : Vector) : Type 0 where
+  along-x : inSide (sides .x) (p .x) ≡ true
+  along-y : inSide (sides .y) (p .y) ≡ true
+  along-z : inSide (sides .z) (p .z) ≡ true
 
-sides-are : (sides p : Vector) → inBox sides p ≡ true → Within-sides sides p
+sides-are : (sides p : Vector) → inBox sides p ≡ true → SideTests sides p
 unfolding inBox
 sides-are sides p e = let a = split _ _ e in let b = split _ _ (a .1) in record { along-x = a .0; along-y = b .0; along-z = b .1 }
 
@@ -154,7 +153,7 @@ empty-cube h e = look-cube h (ap isInside e)
 
 -- ---- sizes of the cube's points, and of what lies between two
 axis-within : {x : ℤ} → Axis x → Within 1023 x
-axis-within h = let a = h .low in let b = h .high in omega (arith, parts, sizes)
+axis-within h = omega (arith, parts, sizes)
 
 pub cube-bounded : {p : Vector} → Cube p → Bounded 1023 p
 cube-bounded h = record { in-x = axis-within (h .in-x); in-y = axis-within (h .in-y); in-z = axis-within (h .in-z) }
@@ -163,7 +162,7 @@ axes-within : {x y : ℤ} → Axis x → Axis y → Within 1023 (x -ℤ y)
 axes-within {x} {y} h k =
     let a = atom x in
     let b = atom y in
-    goal (search (within-linear, linear)) (omega (arith, parts, h .low, h .high, k .low, k .high))
+    goal (search (within-linear, linear)) (omega (arith, parts))
 
 pub cube-difference : {p q : Vector} → Cube p → Cube q → Bounded 1023 (p ⊖ q)
 unfolding _⊖_

@@ -100,7 +100,11 @@ module _ {a b : Vector} (p : Known a) (q : Known b) where
 abbrev pub result-known : {r a : Vector} → r ≡ a → Known a → Known r
 result-known e p = record { read = record { plain = p .read .plain; passes = p .read .passes; reads = λ t. e ∙ p .read .reads t }; bound = p .bound; sized = p .sized }
 
-pub ruleset measured = (machine, bounded-known, opposite-known, scale-known, sum-known, difference-known, lay-known, cross-known, dot-stands, result-known, known-stands)
+-- the vector itself, for `value`
+abbrev pub vector-reads : {a : Vector} → Known a → Reads a
+vector-reads p = p .read
+
+pub ruleset measured = (machine, vector-reads, bounded-known, opposite-known, scale-known, sum-known, difference-known, lay-known, cross-known, dot-stands, result-known, known-stands)
 
 pub bounded : {n : ℕ} {a : Vector} (p : Known a) → T (p .read .passes && leb (p .bound) n) → Bounded n a
 bounded {n} p t =

@@ -1,6 +1,6 @@
 -- Each part is a minor, whose numbers are read back from bits.
 use borrow.Author.Needs.{needs}
-use Rattle.integers.specs.Machine.{machine, value}
+use Rattle.integers.specs.Machine.{value}
 use Rattle.space.specs.Bounds.{measured}
 use Rattle.rules.specs.Vectors.{cross}
 use Rattle.space.proofs.Parts.{by-parts}
