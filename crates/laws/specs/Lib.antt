@@ -1,0 +1,6 @@
+-- What holds of document 01's definitions on every solid. `Theorems` states it by name; the others are the lemmas.
+pub mod Tests
+pub mod Parts
+pub mod Triples
+pub mod Sphere
+pub mod Choosing
