@@ -20,14 +20,10 @@ use Rattle.laws.specs.Triples.{detOf}
 use Rattle.laws.specs.Sphere.{g, determinant-is}
 
 -- ---- the choice of one round, pair by pair, as code makes it
-abbrev pub replaced : Bool → Pair → Pair → Choice
-replaced true x y = Chosen y
-replaced false x y = Chosen x
-
 -- the best so far, and a pair that falls too
 unfoldable pub better : Triangle → Choice → Pair → Choice
 better m Nothing y = Chosen y
-better m (Chosen x) y = replaced (inside m x y) x y
+better m (Chosen x) y = elim (inside m x y) [ true ↦ Chosen y | false ↦ Chosen x ]
 
 unfoldable pub best : Triangle → Choice → List Pair → Choice
 best m c [] = c
@@ -127,7 +123,7 @@ module _ (m : Triangle) (d : detOf m ≡ pos 1) where
       go : (b : Bool) → inside m x y ≡ b
           → (((z : Pair) → In z fs → T (inside m y z) → In z ys) → best m (Chosen y) ys ≡ firstFree m fs (y ∷ ys))
           → (((z : Pair) → In z fs → T (inside m x z) → In z ys) → best m (Chosen x) ys ≡ firstFree m fs (x ∷ ys))
-          → best m (replaced b x y) ys ≡ firstFree m fs (x ∷ y ∷ ys)
+          → best m (elim b [ true ↦ Chosen y | false ↦ Chosen x ]) ys ≡ firstFree m fs (x ∷ y ∷ ys)
       go true e r _ = rw (some-inside x y fs (sub y (inl refl)) (rw e tt), firstFree) (r (nearer (rw e tt)))
       go false e _ r = r (λ z i u. not-first x y z ys e u (left z i u)) ∙ skip e (anyInside m x fs) refl
 
@@ -142,7 +138,7 @@ module _ (m : Triangle) (d : detOf m ≡ pos 1) where
   some-best x [] e = let z : _≡_ {A = ℕ} 0 1 = cc in omega arith
   some-best x (y ∷ ys) e = go (inside m x y) (some-best x ys) (some-best y ys) e
     where
-      go : (b : Bool) → (best m (Chosen x) ys ≡ Nothing → ⊥) → (best m (Chosen y) ys ≡ Nothing → ⊥) → best m (replaced b x y) ys ≡ Nothing → ⊥
+      go : (b : Bool) → (best m (Chosen x) ys ≡ Nothing → ⊥) → (best m (Chosen y) ys ≡ Nothing → ⊥) → best m (elim b [ true ↦ Chosen y | false ↦ Chosen x ]) ys ≡ Nothing → ⊥
       go true h k e = k e
       go false h k e = h e
 

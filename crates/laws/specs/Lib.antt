@@ -4,3 +4,8 @@ pub mod Parts
 pub mod Triples
 pub mod Sphere
 pub mod Choosing
+pub mod Says
+pub mod Looks
+pub mod Frames
+pub mod Ranges
+pub mod Boxes
