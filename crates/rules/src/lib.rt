@@ -1,6 +1,7 @@
 // The types that document 01's definitions, in `specs/`, and the code above them share. There is no code here.
 
-// A vector, a voxel or a place.
+// A vector, a voxel or a place. The panel's C interface has it as it is.
+#[repr(C)]
 pub struct Vector {
     pub x: i32,
     pub y: i32,
