@@ -6,4 +6,6 @@ pub mod Walk
 pub mod Pick
 pub mod Decimals
 pub mod Display
+pub mod Session
 pub mod Cases
+pub mod Texts

@@ -93,3 +93,23 @@ pub enum Display {
     Lit(Light),
     Unlit(u32),
 }
+
+// ---- the session's lines
+
+// What a part of a line says.
+pub enum Number {
+    Whole(i32),
+    NoNumber,
+}
+
+pub struct Question {
+    pub wedge: Wedge,
+    pub p: Vector,
+    pub frame: i32,
+    pub reach: i32,
+}
+
+pub enum Line {
+    Asks(Question),
+    OtherForm,
+}
