@@ -6,4 +6,5 @@ pub mod Walk
 pub mod Pick
 pub mod Decimals
 pub mod Display
+pub mod P4
 pub mod Cases
