@@ -94,6 +94,18 @@ pub enum Display {
     Unlit(u32),
 }
 
+// ---- the answers of P4's reader and writer; a refusal has its number and the number returned
+
+pub enum Reading {
+    Read(Stack),
+    Unread(u32, usize),
+}
+
+pub enum Writing {
+    Written(usize),
+    Unwritten(u32, usize),
+}
+
 // ---- the session's lines
 
 // What a part of a line says.
