@@ -9,4 +9,3 @@ pub mod P4
 pub mod Display
 pub mod Session
 pub mod Cases
-pub mod Texts
