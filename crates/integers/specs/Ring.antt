@@ -1,38 +1,33 @@
--- Identities of commutative rings over ℤ, by reflection: `ring ρ a b tt : eval ρ a ≡ eval ρ b`, where ρ lists the values of the variables.
--- A polynomial is a list of terms with rising keys. A monomial's key is one native number, its exponents in base 256: a product of monomials is a sum of keys, a comparison one native step.
--- So no exponent may pass 255: `check` tests the degree, and each operation is shown to keep both the value and the degree (`Means`).
+-- Identities of commutative rings over ℤ, by reflection. A `Term ρ x` is an expression in the atoms ρ whose value is x, and
+-- `ring a b tt : x ≡ y` for a `Term ρ x` and a `Term ρ y` whose difference has the normal form 0.
+-- A polynomial is a list of terms with rising keys. A monomial's key is one native number, its exponents in base 256: a product of
+-- monomials is a sum of keys, a comparison one native step. So no exponent may pass 255: `check` tests the degree, and each operation
+-- is shown to keep both the value and the degree (`Means`).
 use mathlib.Core.Path.{_≡_, refl, sym, ap, ap₂, _∙_}
 use mathlib.Core.List.{List, [], _∷_}
 use mathlib.Core.Bool.{Bool, true, false, _&&_}
-use Prim.Native.Nat.{ℕ, zero, suc, _+_, _/_, _%_, _^_, _<_, _≤_, max, compare, Ordering, Ordering·lt, Ordering·eq, Ordering·gt}
+use Prim.Native.Nat.{ℕ, zero, suc, _+_, _*_, _/_, _%_, _<_, _≤_, max, compare, Ordering, Ordering·lt, Ordering·eq, Ordering·gt}
 use native.Mathlib.Nat as NatL
 use native.Mathlib.Omega.{arith}
 use mir.Facts.{and-yes}
 use lib.Dec.{T, isEq, ltb, ltb→lt, eqb→eq}
 use lib.IntN.{ℤ, pos, negsuc, negℤ, _+ℤ_, _*ℤ_, one, pow, +ℤ-idl, +ℤ-idr, +ℤ-assoc, zero-*ℤ, *ℤ-zero, negℤ-+ℤ}
-use Rattle.integers.specs.Laws.{sums, products, +ℤ-left-comm, *ℤ-distr, *ℤ-distl, *ℤ-assoc, *ℤ-idl, *ℤ-idr, negℤ-*ℤ, same-of-difference}
+use Rattle.integers.specs.Laws.{sums, products, +ℤ-left-comm, *ℤ-distr, *ℤ-distl, *ℤ-assoc, *ℤ-idl, *ℤ-idr}
+use Rattle.integers.specs.Laws.{negℤ-*ℤ, same-of-difference}
 
-infixl 6 _⊕_
-infixl 7 _⊗_
-pub data Expr : Type 0 where
-  var : ℕ → Expr
-  lit : ℤ → Expr
-  _⊕_ : Expr → Expr → Expr
-  _⊗_ : Expr → Expr → Expr
-  ⊝ : Expr → Expr
+-- a place in the list of atoms, or past its end a literal
+pub data Leaf : List ℤ → ℤ → Type 0 where
+  here : {x : ℤ} {ρ : List ℤ} → Leaf (x ∷ ρ) x
+  there : {x y : ℤ} {ρ : List ℤ} → Leaf ρ x → Leaf (y ∷ ρ) x
+  literal : {n : ℕ} → Leaf [] (pos n)
+  negative : {n : ℕ} → Leaf [] (negsuc n)
 
--- past the list's end a variable is 1
-abbrev pub look : List ℤ → ℕ → ℤ
-look [] i = pos 1
-look (x ∷ ρ) zero = x
-look (x ∷ ρ) (suc i) = look ρ i
-
-abbrev pub eval : List ℤ → Expr → ℤ
-eval ρ (var i) = look ρ i
-eval ρ (lit z) = z
-eval ρ (a ⊕ b) = eval ρ a +ℤ eval ρ b
-eval ρ (a ⊗ b) = eval ρ a *ℤ eval ρ b
-eval ρ (⊝ a) = negℤ (eval ρ a)
+-- a difference is a sum with an opposite
+pub data Term : List ℤ → ℤ → Type 0 where
+  leaf : {x : ℤ} {ρ : List ℤ} → Leaf ρ x → Term ρ x
+  sum : {x y : ℤ} {ρ : List ℤ} → Term ρ x → Term ρ y → Term ρ (x +ℤ y)
+  product : {x y : ℤ} {ρ : List ℤ} → Term ρ x → Term ρ y → Term ρ (x *ℤ y)
+  opposite : {x : ℤ} {ρ : List ℤ} → Term ρ x → Term ρ (negℤ x)
 
 -- ---- polynomials
 pub data Poly : Type 0 where
@@ -44,7 +39,7 @@ put k (pos zero) p = p
 put k (pos (suc n)) p = term k (pos (suc n)) p
 put k (negsuc n) p = term k (negsuc n) p
 
--- one turn of `insert`, at a term l y of the list, with `rest` for a key that goes further in
+-- one turn of `insert`, at the term l y of a list; `rest` is for a key that goes further in
 abbrev pub place : Ordering → ℕ → ℤ → (Poly → Poly) → ℕ → ℤ → Poly → Poly → Poly
 place Ordering·lt k x f l y q rest = term k x (f (term l y q))
 place Ordering·eq k x f l y q rest = put k (x +ℤ y) (f q)
@@ -67,30 +62,39 @@ abbrev pub times : Poly → Poly → Poly
 times nil q = nil
 times (term k x p) q = merge (scale k x q) (times p q)
 
-abbrev pub opposite : Poly → Poly
-opposite nil = nil
-opposite (term k x p) = term k (negℤ x) (opposite p)
+abbrev pub minus : Poly → Poly
+minus nil = nil
+minus (term k x p) = term k (negℤ x) (minus p)
 
-abbrev pub normal : Expr → Poly
-normal (var i) = term (256 ^ i) (pos 1) nil
-normal (lit z) = put 0 z nil
-normal (a ⊕ b) = merge (normal a) (normal b)
-normal (a ⊗ b) = times (normal a) (normal b)
-normal (⊝ a) = opposite (normal a)
+-- with one atom more in front
+abbrev pub shift : Poly → Poly
+shift nil = nil
+shift (term k x p) = term (256 * k) x (shift p)
 
-abbrev pub degree : Expr → ℕ
-degree (var i) = 1
-degree (lit z) = 0
-degree (a ⊕ b) = max (degree a) (degree b)
-degree (a ⊗ b) = degree a + degree b
-degree (⊝ a) = degree a
+abbrev pub at-leaf : {x : ℤ} {ρ : List ℤ} → Leaf ρ x → Poly
+at-leaf here = term 1 (pos 1) nil
+at-leaf (there p) = shift (at-leaf p)
+at-leaf (literal {n}) = put 0 (pos n) nil
+at-leaf (negative {n}) = put 0 (negsuc n) nil
+
+abbrev pub normal : {x : ℤ} {ρ : List ℤ} → Term ρ x → Poly
+normal (leaf p) = at-leaf p
+normal (sum a b) = merge (normal a) (normal b)
+normal (product a b) = times (normal a) (normal b)
+normal (opposite a) = minus (normal a)
+
+abbrev pub degree : {x : ℤ} {ρ : List ℤ} → Term ρ x → ℕ
+degree (leaf p) = 1
+degree (sum a b) = max (degree a) (degree b)
+degree (product a b) = degree a + degree b
+degree (opposite a) = degree a
 
 abbrev pub none? : Poly → Bool
 none? nil = true
 none? (term k x p) = false
 
-abbrev pub check : Expr → Expr → Bool
-check a b = ltb (degree (a ⊕ ⊝ b)) 256 && none? (normal (a ⊕ ⊝ b))
+abbrev pub check : {x : ℤ} {ρ : List ℤ} → Term ρ x → Bool
+check a = ltb (degree a) 256 && none? (normal a)
 
 -- ---- what a polynomial means
 unfoldable pub monomial : List ℤ → ℕ → ℤ
@@ -110,6 +114,11 @@ exponents (x ∷ ρ) k = k % 256 + exponents ρ (k / 256)
 abbrev Low : List ℤ → ℕ → Poly → Type 0
 Low ρ d nil = Unit {0}
 Low ρ d (term k x p) = (exponents ρ k ≤ d) × Low ρ d p
+
+-- p is z, and its degree is at most d
+record Means (ρ : List ℤ) (d : ℕ) (p : Poly) (z : ℤ) : Type 0 where
+  value : total ρ p ≡ z
+  low : Low ρ d p
 
 -- ---- monomials: digits that do not carry
 pow-add : (x : ℤ) (a b : ℕ) → pow x (a + b) ≡ pow x a *ℤ pow x b
@@ -149,24 +158,31 @@ unfolding monomial pow one
 monomial-one [] = refl
 monomial-one (x ∷ ρ) = *ℤ-idl (monomial ρ 0) ∙ monomial-one ρ
 
-module _ (i : ℕ) where
-  power-digit : 256 ^ suc i % 256 ≡ 0
-  power-digit = omega (arith, NatL.pow-suc 256 i)
-
-  power-rest : 256 ^ suc i / 256 ≡ 256 ^ i
-  power-rest = omega (arith, NatL.pow-suc 256 i)
-
-exponents-var : (ρ : List ℤ) (i : ℕ) → exponents ρ (256 ^ i) ≤ 1
-unfolding exponents
-exponents-var [] i = omega arith
-exponents-var (x ∷ ρ) zero = omega (arith, exponents-one ρ)
-exponents-var (x ∷ ρ) (suc i) = simp (power-digit, power-rest) (omega (arith, exponents-var ρ i))
-
-monomial-var : (ρ : List ℤ) (i : ℕ) → monomial ρ (256 ^ i) ≡ look ρ i
+monomial-atom : (x : ℤ) (ρ : List ℤ) → monomial (x ∷ ρ) 1 ≡ x
 unfolding monomial pow one
-monomial-var [] i = refl
-monomial-var (x ∷ ρ) zero = ap₂ _*ℤ_ (*ℤ-idl x) (monomial-one ρ) ∙ *ℤ-idr x
-monomial-var (x ∷ ρ) (suc i) = simp (power-digit, power-rest, monomial-var ρ i) (*ℤ-idl (look ρ i))
+monomial-atom x ρ = ap₂ _*ℤ_ (*ℤ-idl x) (monomial-one ρ) ∙ *ℤ-idr x
+
+-- ---- one atom more
+module _ (y : ℤ) (ρ : List ℤ) where
+  no-digit : (k : ℕ) → 256 * k % 256 ≡ 0
+  no-digit k = omega arith
+
+  rest-digits : (k : ℕ) → 256 * k / 256 ≡ k
+  rest-digits k = omega arith
+
+  monomial-shift : (k : ℕ) → monomial (y ∷ ρ) (256 * k) ≡ monomial ρ k
+  unfolding monomial pow one
+  monomial-shift k = simp (no-digit, rest-digits) (*ℤ-idl (monomial ρ k))
+
+  total-shift : (p : Poly) → total (y ∷ ρ) (shift p) ≡ total ρ p
+  unfolding total
+  total-shift nil = refl
+  total-shift (term k x p) = simp (monomial-shift, total-shift p)
+
+  low-shift : (d : ℕ) (p : Poly) → Low ρ d p → Low (y ∷ ρ) d (shift p)
+  unfolding exponents
+  low-shift d nil h = tt
+  low-shift d (term k x p) h = (simp (no-digit, rest-digits) (omega (arith, h .0)), low-shift d p (h .1))
 
 -- ---- the operations
 same-key : (x y k p q : ℤ) → (x +ℤ y) *ℤ k +ℤ (p +ℤ q) ≡ (x *ℤ k +ℤ p) +ℤ (y *ℤ k +ℤ q)
@@ -176,12 +192,7 @@ scaled-key : (x y k l q : ℤ) {m r : ℤ} → m ≡ l *ℤ k → r ≡ (y *ℤ 
 scaled-key x y k l q e h = simp (e, h, *ℤ-distl) (simp products)
 
 module _ (ρ : List ℤ) where
-  -- p is z, and its degree is at most d
-  record Means (d : ℕ) (p : Poly) (z : ℤ) : Type 0 where
-    value : total ρ p ≡ z
-    low : Low ρ d p
-
-  put-means : (d k : ℕ) (x : ℤ) (p : Poly) (z : ℤ) → exponents ρ k ≤ d → Means d p z → Means d (put k x p) (x *ℤ monomial ρ k +ℤ z)
+  put-means : (d k : ℕ) (x : ℤ) (p : Poly) (z : ℤ) → exponents ρ k ≤ d → Means ρ d p z → Means ρ d (put k x p) (x *ℤ monomial ρ k +ℤ z)
   unfolding total
   put-means d k (pos zero) p z h m = record { value = simp (zero-*ℤ, +ℤ-idl) (m .value); low = m .low }
   put-means d k (pos (suc n)) p z h m = record { value = rw (m .value); low = (h, m .low) }
@@ -189,37 +200,43 @@ module _ (ρ : List ℤ) where
 
   -- the term k x stands before p, and f merges p into a list
   module _ (d k : ℕ) (x : ℤ) (p : Poly) (f : Poly → Poly) (h : exponents ρ k ≤ d) (hp : Low ρ d p)
-      (hf : (q : Poly) → Low ρ d q → Means d (f q) (total ρ p +ℤ total ρ q)) where
-    insert-means : (q : Poly) → Low ρ d q → Means d (insert k x p f q) (total ρ (term k x p) +ℤ total ρ q)
+      (hf : (q : Poly) → Low ρ d q → Means ρ d (f q) (total ρ p +ℤ total ρ q)) where
+    insert-means : (q : Poly) → Low ρ d q → Means ρ d (insert k x p f q) (total ρ (term k x p) +ℤ total ρ q)
     unfolding total
     insert-means nil b = record { value = simp +ℤ-idr; low = (h, hp) }
     insert-means (term l y q) b = go (compare k l) (eqb→eq k l) (insert-means q (b .1))
       where
-        go : (o : Ordering) → (T (isEq o) → k ≡ l) → Means d (insert k x p f q) (total ρ (term k x p) +ℤ total ρ q)
-            → Means d (place o k x f l y q (insert k x p f q)) (total ρ (term k x p) +ℤ total ρ (term l y q))
+        go : (o : Ordering) → (T (isEq o) → k ≡ l) → Means ρ d (insert k x p f q) (total ρ (term k x p) +ℤ total ρ q)
+            → Means ρ d (place o k x f l y q (insert k x p f q)) (total ρ (term k x p) +ℤ total ρ (term l y q))
         go Ordering·lt e m = let r = hf (term l y q) b in record { value = simp (r .value, +ℤ-assoc); low = (h, r .low) }
         go Ordering·eq e m =
             let r = put-means d k (x +ℤ y) (f q) (total ρ p +ℤ total ρ q) h (hf q (b .1)) in
             record {
-              value = r .value ∙ same-key x y (monomial ρ k) (total ρ p) (total ρ q) ∙ ap (λ (j : ℕ). total ρ (term k x p) +ℤ total ρ (term j y q)) (e tt);
+              value =
+                  r .value
+                  ∙ same-key x y (monomial ρ k) (total ρ p) (total ρ q)
+                  ∙ ap (λ (j : ℕ). total ρ (term k x p) +ℤ total ρ (term j y q)) (e tt);
               low = r .low;
             }
-        go Ordering·gt e m = record { value = rw (m .value) (+ℤ-left-comm (y *ℤ monomial ρ l) (total ρ (term k x p)) (total ρ q)); low = (b .0, m .low) }
+        go Ordering·gt e m = record {
+          value = rw (m .value) (+ℤ-left-comm (y *ℤ monomial ρ l) (total ρ (term k x p)) (total ρ q));
+          low = (b .0, m .low);
+        }
 
-  merge-means : (d : ℕ) (p q : Poly) → Low ρ d p → Low ρ d q → Means d (merge p q) (total ρ p +ℤ total ρ q)
+  merge-means : (d : ℕ) (p q : Poly) → Low ρ d p → Low ρ d q → Means ρ d (merge p q) (total ρ p +ℤ total ρ q)
   unfolding total
   merge-means d nil q a b = record { value = simp +ℤ-idl; low = b }
   merge-means d (term k x p) q a b = insert-means d k x p (merge p) (a .0) (a .1) (λ r. merge-means d p r (a .1)) q b
 
-  opposite-means : (d : ℕ) (p : Poly) → Low ρ d p → Means d (opposite p) (negℤ (total ρ p))
+  minus-means : (d : ℕ) (p : Poly) → Low ρ d p → Means ρ d (minus p) (negℤ (total ρ p))
   unfolding total
-  opposite-means d nil b = record { value = refl; low = tt }
-  opposite-means d (term k x p) b =
-      let m = opposite-means d p (b .1) in
+  minus-means d nil b = record { value = refl; low = tt }
+  minus-means d (term k x p) b =
+      let m = minus-means d p (b .1) in
       record { value = simp (m .value, negℤ-*ℤ, negℤ-+ℤ); low = (b .0, m .low) }
 
   module _ (a b d : ℕ) (fits : a + b ≤ d) (small : d < 256) where
-    scale-means : (l : ℕ) (y : ℤ) (q : Poly) → exponents ρ l ≤ a → Low ρ b q → Means d (scale l y q) ((y *ℤ monomial ρ l) *ℤ total ρ q)
+    scale-means : (l : ℕ) (y : ℤ) (q : Poly) → exponents ρ l ≤ a → Low ρ b q → Means ρ d (scale l y q) ((y *ℤ monomial ρ l) *ℤ total ρ q)
     unfolding total
     scale-means l y nil h hq = record { value = simp *ℤ-zero; low = tt }
     scale-means l y (term k x q) h hq =
@@ -230,7 +247,7 @@ module _ (ρ : List ℤ) where
           low = (omega (arith, hq .0, exponents-add ρ l k no-carry), m .low);
         }
 
-    times-means : (p q : Poly) → Low ρ a p → Low ρ b q → Means d (times p q) (total ρ p *ℤ total ρ q)
+    times-means : (p q : Poly) → Low ρ a p → Low ρ b q → Means ρ d (times p q) (total ρ p *ℤ total ρ q)
     unfolding total
     times-means nil q hp hq = record { value = simp zero-*ℤ; low = tt }
     times-means (term k x p) q hp hq =
@@ -238,32 +255,43 @@ module _ (ρ : List ℤ) where
         let m = merge-means d (scale k x q) (times p q) (s .low) (t .low) in
         record { value = simp (m .value, s .value, t .value, *ℤ-distr); low = m .low }
 
-  normal-means : (e : Expr) (d : ℕ) → degree e ≤ d → d < 256 → Means d (normal e) (eval ρ e)
-  unfolding total
-  normal-means (var i) d h s = record { value = simp (monomial-var, *ℤ-idl, +ℤ-idr); low = (omega (arith, exponents-var ρ i), tt) }
-  normal-means (lit z) d h s =
-      let m = put-means d 0 z nil (pos 0) (omega (arith, exponents-one ρ)) (record { value = refl; low = tt }) in
-      record { value = simp (m .value, monomial-one, *ℤ-idr, +ℤ-idr); low = m .low }
-  normal-means (a ⊕ b) d h s =
-      let l = normal-means a d (omega arith) s in let r = normal-means b d (omega arith) s in
-      let m = merge-means d (normal a) (normal b) (l .low) (r .low) in
-      record { value = simp (m .value, l .value, r .value); low = m .low }
-  normal-means (a ⊗ b) d h s =
-      let l = normal-means a (degree a) (omega arith) (omega arith) in let r = normal-means b (degree b) (omega arith) (omega arith) in
-      let m = times-means (degree a) (degree b) d h s (normal a) (normal b) (l .low) (r .low) in
-      record { value = simp (m .value, l .value, r .value); low = m .low }
-  normal-means (⊝ a) d h s =
-      let l = normal-means a d h s in let m = opposite-means d (normal a) (l .low) in
-      record { value = simp (m .value, l .value); low = m .low }
+literal-means : (z : ℤ) (d : ℕ) → Means [] d (put 0 z nil) z
+unfolding total monomial exponents
+literal-means z d =
+    let m = put-means [] d 0 z nil (pos 0) (omega arith) (record { value = refl; low = tt }) in
+    record { value = m .value ∙ simp (*ℤ-idr, +ℤ-idr); low = m .low }
 
-  none-total : (p : Poly) → T (none? p) → total ρ p ≡ pos 0
-  unfolding total
-  none-total nil t = refl
-  none-total (term k x p) t = absurd t
+at-leaf-means : {x : ℤ} {ρ : List ℤ} (p : Leaf ρ x) (d : ℕ) → 1 ≤ d → Means ρ d (at-leaf p) x
+unfolding total exponents
+at-leaf-means (here {x} {ρ}) d h = record { value = simp (monomial-atom, *ℤ-idl, +ℤ-idr); low = (omega (arith, exponents-one ρ), tt) }
+at-leaf-means (there {y} {ρ} p) d h =
+    let m = at-leaf-means p d h in
+    record { value = total-shift y ρ (at-leaf p) ∙ m .value; low = low-shift y ρ d (at-leaf p) (m .low) }
+at-leaf-means (literal {n}) d h = literal-means (pos n) d
+at-leaf-means (negative {n}) d h = literal-means (negsuc n) d
 
-  pub ring : (a b : Expr) → T (check a b) → eval ρ a ≡ eval ρ b
-  ring a b t =
-      let e = a ⊕ ⊝ b in
-      let c = and-yes (ltb (degree e) 256) (none? (normal e)) t in
-      let m = normal-means e (degree e) (NatL.le-refl (degree e)) (ltb→lt (degree e) 256 (c .0)) in
-      same-of-difference (eval ρ a) (eval ρ b) (sym (m .value) ∙ none-total (normal e) (c .1))
+normal-means : {x : ℤ} {ρ : List ℤ} (e : Term ρ x) (d : ℕ) → degree e ≤ d → d < 256 → Means ρ d (normal e) x
+normal-means (leaf p) d h s = at-leaf-means p d h
+normal-means {ρ} (sum a b) d h s =
+    let l = normal-means a d (omega arith) s in let r = normal-means b d (omega arith) s in
+    let m = merge-means ρ d (normal a) (normal b) (l .low) (r .low) in
+    record { value = simp (m .value, l .value, r .value); low = m .low }
+normal-means {ρ} (product a b) d h s =
+    let l = normal-means a (degree a) (omega arith) (omega arith) in let r = normal-means b (degree b) (omega arith) (omega arith) in
+    let m = times-means ρ (degree a) (degree b) d h s (normal a) (normal b) (l .low) (r .low) in
+    record { value = simp (m .value, l .value, r .value); low = m .low }
+normal-means {ρ} (opposite a) d h s =
+    let l = normal-means a d h s in let m = minus-means ρ d (normal a) (l .low) in
+    record { value = simp (m .value, l .value); low = m .low }
+
+none-total : (ρ : List ℤ) (p : Poly) → T (none? p) → total ρ p ≡ pos 0
+unfolding total
+none-total ρ nil t = refl
+none-total ρ (term k x p) t = absurd t
+
+pub ring : {x y : ℤ} {ρ : List ℤ} (a : Term ρ x) (b : Term ρ y) → T (check (sum a (opposite b))) → x ≡ y
+ring {x} {y} {ρ} a b t =
+    let e = sum a (opposite b) in
+    let c = and-yes (ltb (degree e) 256) (none? (normal e)) t in
+    let m = normal-means e (degree e) (NatL.le-refl (degree e)) (ltb→lt (degree e) 256 (c .0)) in
+    same-of-difference x y (sym (m .value) ∙ none-total ρ (normal e) (c .1))
