@@ -18,7 +18,7 @@ use Rattle.integers.specs.Machine.{Reads, Stands, known-stands, through-
 
 -- ---- identities
 difference-of-squares : (a b : ℤ) → (a +ℤ b) *ℤ (a -ℤ b) ≡ a *ℤ a -ℤ b *ℤ b
-difference-of-squares a b = byring (a ∷ b ∷ []) (search sides depth 40 fits 30000) tt
+difference-of-squares a b = byring (a ∷ b ∷ []) (search sides depth 40 fits 5000) tt
 
 -- from hypotheses: the goal's two sides differ by multiples of theirs
 sum-of-cubes : (a b : ℤ) → a +ℤ b ≡ pos 3 → a *ℤ b ≡ pos 2 → a *ℤ a *ℤ a +ℤ b *ℤ b *ℤ b ≡ pos 9
@@ -26,7 +26,7 @@ sum-of-cubes a b h k =
     by-eq ((a +ℤ b) *ℤ (a +ℤ b) +ℤ pos 3 *ℤ (a +ℤ b) +ℤ pos 9) h
     (by-eq (negsuc 2 *ℤ (a +ℤ b)) k
     (by-eq (negsuc 5) h
-    (byring (a ∷ b ∷ []) (search sides depth 40 fits 30000) tt)))
+    (byring (a ∷ b ∷ []) (search sides depth 40 fits 5000) tt)))
 
 -- definitions open, as `abbrev` or under an `unfolding` line; one that does not is an atom
 record Vector : Type 0 where
@@ -56,7 +56,7 @@ module _ (a b p q r : Vector) where
   plucker =
       byring
       (a .x ∷ a .y ∷ a .z ∷ b .x ∷ b .y ∷ b .z ∷ p .x ∷ p .y ∷ p .z ∷ q .x ∷ q .y ∷ q .z ∷ r .x ∷ r .y ∷ r .z ∷ [])
-      (search sides depth 40 fits 30000)
+      (search sides depth 40 fits 5000)
       tt
 
 -- ---- order

@@ -15,19 +15,19 @@ use lib.IntN.{ℤ, pos, negsuc, negℤ, _+ℤ_, _*ℤ_, one, pow, +ℤ-idl, +ℤ
 use Rattle.integers.specs.Laws.{sums, products, +ℤ-left-comm, *ℤ-distr, *ℤ-distl, *ℤ-assoc, *ℤ-idl, *ℤ-idr}
 use Rattle.integers.specs.Laws.{negℤ-*ℤ, same-of-difference}
 
--- a place in the list of atoms, or past its end a literal
-pub data Leaf : List ℤ → ℤ → Type 0 where
-  here : {x : ℤ} {ρ : List ℤ} → Leaf (x ∷ ρ) x
-  there : {x y : ℤ} {ρ : List ℤ} → Leaf ρ x → Leaf (y ∷ ρ) x
-  literal : {n : ℕ} → Leaf [] (pos n)
-  negative : {n : ℕ} → Leaf [] (negsuc n)
+-- a place of x in the list of atoms
+pub data Place : List ℤ → ℤ → Type 0 where
+  here : {x : ℤ} {ρ : List ℤ} → Place (x ∷ ρ) x
+  there : {x y : ℤ} {ρ : List ℤ} → Place ρ x → Place (y ∷ ρ) x
 
 -- a difference is a sum with an opposite
-pub data Term : List ℤ → ℤ → Type 0 where
-  leaf : {x : ℤ} {ρ : List ℤ} → Leaf ρ x → Term ρ x
-  sum : {x y : ℤ} {ρ : List ℤ} → Term ρ x → Term ρ y → Term ρ (x +ℤ y)
-  product : {x y : ℤ} {ρ : List ℤ} → Term ρ x → Term ρ y → Term ρ (x *ℤ y)
-  opposite : {x : ℤ} {ρ : List ℤ} → Term ρ x → Term ρ (negℤ x)
+pub data Term (ρ : List ℤ) : ℤ → Type 0 where
+  atom : {x : ℤ} → Place ρ x → Term ρ x
+  literal : {n : ℕ} → Term ρ (pos n)
+  negative : {n : ℕ} → Term ρ (negsuc n)
+  sum : {x y : ℤ} → Term ρ x → Term ρ y → Term ρ (x +ℤ y)
+  product : {x y : ℤ} → Term ρ x → Term ρ y → Term ρ (x *ℤ y)
+  opposite : {x : ℤ} → Term ρ x → Term ρ (negℤ x)
 
 -- ---- polynomials
 pub data Poly : Type 0 where
@@ -71,20 +71,22 @@ abbrev pub shift : Poly → Poly
 shift nil = nil
 shift (term k x p) = term (256 * k) x (shift p)
 
-abbrev pub at-leaf : {x : ℤ} {ρ : List ℤ} → Leaf ρ x → Poly
-at-leaf here = term 1 (pos 1) nil
-at-leaf (there p) = shift (at-leaf p)
-at-leaf (literal {n}) = put 0 (pos n) nil
-at-leaf (negative {n}) = put 0 (negsuc n) nil
+abbrev pub at-place : {x : ℤ} {ρ : List ℤ} → Place ρ x → Poly
+at-place here = term 1 (pos 1) nil
+at-place (there p) = shift (at-place p)
 
 abbrev pub normal : {x : ℤ} {ρ : List ℤ} → Term ρ x → Poly
-normal (leaf p) = at-leaf p
+normal (atom p) = at-place p
+normal (literal {n}) = put 0 (pos n) nil
+normal (negative {n}) = put 0 (negsuc n) nil
 normal (sum a b) = merge (normal a) (normal b)
 normal (product a b) = times (normal a) (normal b)
 normal (opposite a) = minus (normal a)
 
 abbrev pub degree : {x : ℤ} {ρ : List ℤ} → Term ρ x → ℕ
-degree (leaf p) = 1
+degree (atom p) = 1
+degree literal = 0
+degree negative = 0
 degree (sum a b) = max (degree a) (degree b)
 degree (product a b) = degree a + degree b
 degree (opposite a) = degree a
@@ -255,23 +257,23 @@ module _ (ρ : List ℤ) where
         let m = merge-means d (scale k x q) (times p q) (s .low) (t .low) in
         record { value = simp (m .value, s .value, t .value, *ℤ-distr); low = m .low }
 
-literal-means : (z : ℤ) (d : ℕ) → Means [] d (put 0 z nil) z
-unfolding total monomial exponents
-literal-means z d =
-    let m = put-means [] d 0 z nil (pos 0) (omega arith) (record { value = refl; low = tt }) in
-    record { value = m .value ∙ simp (*ℤ-idr, +ℤ-idr); low = m .low }
-
-at-leaf-means : {x : ℤ} {ρ : List ℤ} (p : Leaf ρ x) (d : ℕ) → 1 ≤ d → Means ρ d (at-leaf p) x
+at-place-means : {x : ℤ} {ρ : List ℤ} (p : Place ρ x) (d : ℕ) → 1 ≤ d → Means ρ d (at-place p) x
 unfolding total exponents
-at-leaf-means (here {x} {ρ}) d h = record { value = simp (monomial-atom, *ℤ-idl, +ℤ-idr); low = (omega (arith, exponents-one ρ), tt) }
-at-leaf-means (there {y} {ρ} p) d h =
-    let m = at-leaf-means p d h in
-    record { value = total-shift y ρ (at-leaf p) ∙ m .value; low = low-shift y ρ d (at-leaf p) (m .low) }
-at-leaf-means (literal {n}) d h = literal-means (pos n) d
-at-leaf-means (negative {n}) d h = literal-means (negsuc n) d
+at-place-means (here {x} {ρ}) d h = record { value = simp (monomial-atom, *ℤ-idl, +ℤ-idr); low = (omega (arith, exponents-one ρ), tt) }
+at-place-means (there {y} {ρ} p) d h =
+    let m = at-place-means p d h in
+    record { value = total-shift y ρ (at-place p) ∙ m .value; low = low-shift y ρ d (at-place p) (m .low) }
+
+literal-means : (ρ : List ℤ) (z : ℤ) (d : ℕ) → Means ρ d (put 0 z nil) z
+unfolding total
+literal-means ρ z d =
+    let m = put-means ρ d 0 z nil (pos 0) (omega (arith, exponents-one ρ)) (record { value = refl; low = tt }) in
+    record { value = m .value ∙ simp (monomial-one, *ℤ-idr, +ℤ-idr); low = m .low }
 
 normal-means : {x : ℤ} {ρ : List ℤ} (e : Term ρ x) (d : ℕ) → degree e ≤ d → d < 256 → Means ρ d (normal e) x
-normal-means (leaf p) d h s = at-leaf-means p d h
+normal-means (atom p) d h s = at-place-means p d h
+normal-means {ρ} (literal {n}) d h s = literal-means ρ (pos n) d
+normal-means {ρ} (negative {n}) d h s = literal-means ρ (negsuc n) d
 normal-means {ρ} (sum a b) d h s =
     let l = normal-means a d (omega arith) s in let r = normal-means b d (omega arith) s in
     let m = merge-means ρ d (normal a) (normal b) (l .low) (r .low) in
