@@ -1,8 +1,8 @@
 -- Identities of commutative rings over ℤ, by reflection. A `Term ρ x` is an expression in the atoms ρ whose value is x, and
--- `ring a b tt : x ≡ y` for a `Term ρ x` and a `Term ρ y` whose difference has the normal form 0.
+-- `vanishes a tt : x ≡ pos 0` where its normal form is 0, which computes.
 -- A polynomial is a list of terms with rising keys. A monomial's key is one native number, its exponents in base 256: a product of
--- monomials is a sum of keys, a comparison one native step. So no exponent may pass 255: `check` tests the degree, and each operation
--- is shown to keep both the value and the degree (`Means`).
+-- monomials is a sum of keys, a comparison one native step. So no exponent may pass 255: `vanishes?` tests the degree, and each
+-- operation is shown to keep both the value and the degree (`Means`).
 use mathlib.Core.Path.{_≡_, refl, sym, ap, ap₂, _∙_}
 use mathlib.Core.List.{List, [], _∷_}
 use mathlib.Core.Bool.{Bool, true, false, _&&_}
@@ -12,8 +12,7 @@ use native.Mathlib.Omega.{arith}
 use mir.Facts.{and-yes}
 use lib.Dec.{T, isEq, ltb, ltb→lt, eqb→eq}
 use lib.IntN.{ℤ, pos, negsuc, negℤ, _+ℤ_, _*ℤ_, one, pow, +ℤ-idl, +ℤ-idr, +ℤ-assoc, zero-*ℤ, *ℤ-zero, negℤ-+ℤ}
-use Rattle.integers.specs.Laws.{sums, products, +ℤ-left-comm, *ℤ-distr, *ℤ-distl, *ℤ-assoc, *ℤ-idl, *ℤ-idr}
-use Rattle.integers.specs.Laws.{negℤ-*ℤ, same-of-difference}
+use Rattle.integers.specs.Laws.{sums, products, +ℤ-left-comm, *ℤ-distr, *ℤ-distl, *ℤ-assoc, *ℤ-idl, *ℤ-idr, negℤ-*ℤ}
 
 -- a place of x in the list of atoms
 pub data Place : List ℤ → ℤ → Type 0 where
@@ -40,15 +39,15 @@ put k (pos (suc n)) p = term k (pos (suc n)) p
 put k (negsuc n) p = term k (negsuc n) p
 
 -- one turn of `insert`, at the term l y of a list; `rest` is for a key that goes further in
-abbrev pub place : Ordering → ℕ → ℤ → (Poly → Poly) → ℕ → ℤ → Poly → Poly → Poly
-place Ordering·lt k x f l y q rest = term k x (f (term l y q))
-place Ordering·eq k x f l y q rest = put k (x +ℤ y) (f q)
-place Ordering·gt k x f l y q rest = term l y rest
+abbrev pub turn : Ordering → ℕ → ℤ → (Poly → Poly) → ℕ → ℤ → Poly → Poly → Poly
+turn Ordering·lt k x f l y q rest = term k x (f (term l y q))
+turn Ordering·eq k x f l y q rest = put k (x +ℤ y) (f q)
+turn Ordering·gt k x f l y q rest = term l y rest
 
 -- the term k x before p, put in its place in a list; `f` merges p into what comes after it
 abbrev pub insert : ℕ → ℤ → Poly → (Poly → Poly) → Poly → Poly
 insert k x p f nil = term k x p
-insert k x p f (term l y q) = place (compare k l) k x f l y q (insert k x p f q)
+insert k x p f (term l y q) = turn (compare k l) k x f l y q (insert k x p f q)
 
 abbrev pub merge : Poly → Poly → Poly
 merge nil q = q
@@ -95,8 +94,8 @@ abbrev pub none? : Poly → Bool
 none? nil = true
 none? (term k x p) = false
 
-abbrev pub check : {x : ℤ} {ρ : List ℤ} → Term ρ x → Bool
-check a = ltb (degree a) 256 && none? (normal a)
+abbrev pub vanishes? : {x : ℤ} {ρ : List ℤ} → Term ρ x → Bool
+vanishes? a = ltb (degree a) 256 && none? (normal a)
 
 -- ---- what a polynomial means
 unfoldable pub monomial : List ℤ → ℕ → ℤ
@@ -165,13 +164,14 @@ unfolding monomial pow one
 monomial-atom x ρ = ap₂ _*ℤ_ (*ℤ-idl x) (monomial-one ρ) ∙ *ℤ-idr x
 
 -- ---- one atom more
+module _ (k : ℕ) where
+  no-digit : 256 * k % 256 ≡ 0
+  no-digit = omega arith
+
+  rest-digits : 256 * k / 256 ≡ k
+  rest-digits = omega arith
+
 module _ (y : ℤ) (ρ : List ℤ) where
-  no-digit : (k : ℕ) → 256 * k % 256 ≡ 0
-  no-digit k = omega arith
-
-  rest-digits : (k : ℕ) → 256 * k / 256 ≡ k
-  rest-digits k = omega arith
-
   monomial-shift : (k : ℕ) → monomial (y ∷ ρ) (256 * k) ≡ monomial ρ k
   unfolding monomial pow one
   monomial-shift k = simp (no-digit, rest-digits) (*ℤ-idl (monomial ρ k))
@@ -209,7 +209,7 @@ module _ (ρ : List ℤ) where
     insert-means (term l y q) b = go (compare k l) (eqb→eq k l) (insert-means q (b .1))
       where
         go : (o : Ordering) → (T (isEq o) → k ≡ l) → Means ρ d (insert k x p f q) (total ρ (term k x p) +ℤ total ρ q)
-            → Means ρ d (place o k x f l y q (insert k x p f q)) (total ρ (term k x p) +ℤ total ρ (term l y q))
+            → Means ρ d (turn o k x f l y q (insert k x p f q)) (total ρ (term k x p) +ℤ total ρ (term l y q))
         go Ordering·lt e m = let r = hf (term l y q) b in record { value = simp (r .value, +ℤ-assoc); low = (h, r .low) }
         go Ordering·eq e m =
             let r = put-means d k (x +ℤ y) (f q) (total ρ p +ℤ total ρ q) h (hf q (b .1)) in
@@ -291,9 +291,7 @@ unfolding total
 none-total ρ nil t = refl
 none-total ρ (term k x p) t = absurd t
 
-pub ring : {x y : ℤ} {ρ : List ℤ} (a : Term ρ x) (b : Term ρ y) → T (check (sum a (opposite b))) → x ≡ y
-ring {x} {y} {ρ} a b t =
-    let e = sum a (opposite b) in
+pub vanishes : {x : ℤ} {ρ : List ℤ} (e : Term ρ x) → T (vanishes? e) → x ≡ pos 0
+vanishes {ρ} e t =
     let c = and-yes (ltb (degree e) 256) (none? (normal e)) t in
-    let m = normal-means e (degree e) (NatL.le-refl (degree e)) (ltb→lt (degree e) 256 (c .0)) in
-    same-of-difference x y (sym (m .value) ∙ none-total ρ (normal e) (c .1))
+    sym (normal-means e (degree e) (NatL.le-refl (degree e)) (ltb→lt (degree e) 256 (c .0)) .value) ∙ none-total ρ (normal e) (c .1)
