@@ -26,6 +26,7 @@ use Rattle.laws.specs.Tests.{first-of, second-of}
 use Rattle.laws.specs.Parts.{Parts}
 use Rattle.laws.specs.Triples.{All}
 use Rattle.laws.specs.Frames.{Signs}
+use Rattle.laws.specs.Looks.{As}
 use Rattle.laws.specs.Ranges.{Between, InCube, WithinEach, step-within}
 
 -- ---- a look and the box
@@ -42,6 +43,18 @@ look-inside solid bytes p = seen-inside (inBox (box solid) p) (filled solid byte
 pub outside-box : (solid : Solid) (bytes : List ℕ) (p : Vector) → look solid bytes p ≡ Outside → T (not (inBox (box solid) p))
 unfolding isInside
 outside-box solid bytes p e = rw (← look-inside solid bytes p, e) tt
+
+seen-told : (i f b : Bool) → seenAs i f ≡ As b → T i × (f ≡ b)
+seen-told false f true e = absurd (let z : _≡_ {A = ℕ} 0 1 = cc in omega arith)
+seen-told false f false e = absurd (let z : _≡_ {A = ℕ} 0 1 = cc in omega arith)
+seen-told true true true e = (tt, refl)
+seen-told true true false e = absurd (let z : _≡_ {A = ℕ} 0 1 = cc in omega arith)
+seen-told true false true e = absurd (let z : _≡_ {A = ℕ} 0 1 = cc in omega arith)
+seen-told true false false e = (tt, refl)
+
+pub look-told : (solid : Solid) (bytes : List ℕ) (p : Vector) (b : Bool) → look solid bytes p ≡ As b → T (inBox (box solid) p) × (filled solid bytes p ≡ b)
+unfolding look
+look-told solid bytes p b e = seen-told (inBox (box solid) p) (filled solid bytes p) b e
 
 -- ---- cubes
 pub between-yes : (low x high : ℤ) → T (between low x high) → (low ≤ℤ x) × (x ≤ℤ high)

@@ -6,18 +6,18 @@ use mathlib.Core.Logic.{_⊎_, inl, inr}
 use mathlib.Core.List.{List, [], _∷_}
 use Prim.Native.Nat.{ℕ}
 use native.Mathlib.Omega.{arith}
-use lib.IntN.{ℤ, pos, _+ℤ_, _*ℤ_}
+use lib.IntN.{ℤ, pos, _+ℤ_, _-ℤ_, _*ℤ_}
 use lib.Signed.{_≤ℤ_, _<ℤ_}
-use Rattle.integers.specs.Reify.{byring, sides}
+use Rattle.integers.specs.Reify.{byring, sides, by-eq}
 use Rattle.integers.specs.Order.{parts, linear, atom, goal, fact}
 use Rattle.rules.specs.declared.Vector.{Vector}
 use Rattle.rules.specs.declared.Triangle.{Triangle}
 use Rattle.rules.specs.declared.Pair.{Pair}
 use Rattle.rules.specs.declared.Pair.the-variants.{P01, P02, P10, P12, P20, P21}
 use Rattle.rules.specs.Vectors.{vector, _⊕_, _⊖_, scale, dot, cross, det}
-use Rattle.rules.specs.Walk.{triangle, units, first, second, with, step, normal}
+use Rattle.rules.specs.Walk.{triangle, units, first, second, way, with, step, normal}
 use Rattle.laws.specs.Tests.{compared}
-use Rattle.laws.specs.Parts.{vector-eq, NonNegative, Positive, of2, of3}
+use Rattle.laws.specs.Parts.{vector-eq, NonNegative, Positive, of2, of3, scale-one}
 
 -- ---- P of each triangle vector, and so of m_k, of m_l and of a triangle with a new m_k
 pub record All (P : Vector → Type 0) (m : Triangle) : Type 0 where
@@ -187,3 +187,39 @@ tame-normal m t =
       ofY = not-all-zero (b .m0 .y) (b .m1 .y) (b .m2 .y) (m .m0 .y) (m .m1 .y) (m .m2 .y) (t .unimodular) (byring (of9 m) (search sides depth 40 fits 30000) tt) (up .of0 .ofY) (up .of1 .ofY) (up .of2 .ofY);
       ofZ = not-all-zero (b .m0 .z) (b .m1 .z) (b .m2 .z) (m .m0 .z) (m .m1 .z) (m .m2 .z) (t .unimodular) (byring (of9 m) (search sides depth 40 fits 30000) tt) (up .of0 .ofZ) (up .of1 .ofZ) (up .of2 .ofZ);
     }
+
+-- ---- a vector whose products with m0, m1 and m2 are equal is a multiple of the normal
+together : (a x y z : ℤ) → a *ℤ x +ℤ a *ℤ y +ℤ a *ℤ z ≡ a *ℤ (z +ℤ x +ℤ y)
+together a x y z = byring (a ∷ x ∷ y ∷ z ∷ []) (search sides depth 40 fits 30000) tt
+
+combined-same : (b : Triangle) (a : ℤ) → combined b a a a ≡ scale a (b .m2 ⊕ b .m0 ⊕ b .m1)
+unfolding scale _⊕_
+combined-same b a = vector-eq (together a (b .m0 .x) (b .m1 .x) (b .m2 .x)) (together a (b .m0 .y) (b .m1 .y) (b .m2 .y)) (together a (b .m0 .z) (b .m1 .z) (b .m2 .z))
+
+pub equal-products : (n : Vector) (m : Triangle) → detOf m ≡ pos 1 → dot n (m .m1) ≡ dot n (m .m0) → dot n (m .m2) ≡ dot n (m .m0) → n ≡ scale (dot n (m .m0)) (normal m)
+unfolding normal
+equal-products n m d e f = sym (scale-one n) ∙ (rw (d, e, f) at (expand-crosses m n)) ∙ combined-same (crosses m) (dot n (m .m0))
+
+-- ---- the sides generate every whole vector of the plane
+normal-parts : (m : Triangle) (v : Vector) → dot (normal m) v ≡ dot (crosses m .m0) v +ℤ dot (crosses m .m1) v +ℤ dot (crosses m .m2) v
+unfolding dot normal _⊕_ cross
+normal-parts m v = byring (of12 m v) (search sides depth 40 fits 30000) tt
+
+leaning : (a b c x y z : ℤ) → a +ℤ b +ℤ c ≡ pos 0 → a *ℤ x +ℤ b *ℤ y +ℤ c *ℤ z ≡ b *ℤ (y -ℤ x) +ℤ c *ℤ (z -ℤ x)
+leaning a b c x y z e = by-eq x e (byring (a ∷ b ∷ c ∷ x ∷ y ∷ z ∷ []) (search sides depth 40 fits 30000) tt)
+
+pub sides-generate : (m : Triangle) (v : Vector) → detOf m ≡ pos 1 → dot (normal m) v ≡ pos 0 → (c1 : ℤ) × (c2 : ℤ) × (v ≡ scale c1 (way m P01) ⊕ scale c2 (way m P02))
+unfolding scale _⊕_ _⊖_
+sides-generate m v d e = (b, c, sym (scale-one v) ∙ (rw d at (expand m v)) ∙ vector-eq (leaning a b c (m .m0 .x) (m .m1 .x) (m .m2 .x) none) (leaning a b c (m .m0 .y) (m .m1 .y) (m .m2 .y) none) (leaning a b c (m .m0 .z) (m .m1 .z) (m .m2 .z) none))
+  where
+    a : ℤ
+    a = dot (crosses m .m0) v
+
+    b : ℤ
+    b = dot (crosses m .m1) v
+
+    c : ℤ
+    c = dot (crosses m .m2) v
+
+    none : a +ℤ b +ℤ c ≡ pos 0
+    none = sym (normal-parts m v) ∙ e
