@@ -4,3 +4,5 @@ pub mod Demands
 pub mod Falls
 pub mod Ideal
 pub mod Picks
+pub mod Wedges
+pub mod Proved
