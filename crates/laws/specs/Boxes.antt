@@ -67,7 +67,7 @@ in-side M side x h t =
     let high : x <ℤ side = ltZ-yes (second-of (leZ (pos 0) x) (ltZ x side) t) in
     record { low = low; high = omega (arith, parts) }
 
-in-cube : (M : ℕ) (sides p : Vector) → Parts (λ side. side ≤ℤ pos (suc M)) sides → T (inBox sides p) → InCube M p
+pub in-cube : (M : ℕ) (sides p : Vector) → Parts (λ side. side ≤ℤ pos (suc M)) sides → T (inBox sides p) → InCube M p
 unfolding inBox
 in-cube M sides p h t =
     let yz = second-of (inSide (sides .x) (p .x)) (inSide (sides .y) (p .y) && inSide (sides .z) (p .z)) t in

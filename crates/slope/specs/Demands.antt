@@ -1,4 +1,4 @@
--- Demand 3: on every slope, from every start. Statements only, in the demand's order and words; `Proved` proves them all: `demand-3 : Demand3`, `not-empty : NotEmpty`.
+-- Demand 3: on every slope, from every start. Statements only, in the demand's order and words; proved by `demand-3 : Demand3` in `Proved` and `not-empty : NotEmpty` in `Cases`.
 use mathlib.Core.Path.{_≡_}
 use mathlib.Core.Bool.{not}
 use mathlib.Core.List.{List, []}
@@ -130,12 +130,13 @@ pub record Demand3 : Type 0 where
   pub stackPick : (n : Vector) (t : ℤ) (stack : Stack) (bytes : List ℕ) (p : Vector) (frame reach : ℤ) → OnSlope n t (ofStack stack bytes p frame reach)
       → (r : Pick) → StackPromise stack bytes p frame reach r → Demanded n (ofStack stack bytes p frame reach) r
 
--- ---- not empty: what is assumed holds of W1, W2, W8 and a stack, and the answer is the normal; it holds of W7, and the answer is 8; and 29 looks are reached
+-- ---- not empty: what is assumed holds of W1, W2, W8, of a wedge with a common divisor and of a stack, and the answer is the normal; it holds of W7, and the answer is 8; and the looks allowed are taken
 abbrev pub at : ℕ → Vector
 at k = vector (pos k) (pos k) (pos k)
 
-abbrev pub wedgeOf : ℤ → ℤ → ℤ → ℤ → Wedge
-wedgeOf a b c h = record { a = a; b = b; c = c; h = h }
+-- a line of the wedge program: a b c h, p, frame, R
+abbrev pub line : ℤ → ℤ → ℤ → ℤ → Vector → ℤ → ℤ → Inputs
+line a b c h p frame reach = ofWedge (record { a = a; b = b; c = c; h = h }) p frame reach
 
 pub record Accepts (n : Vector) (t : ℤ) (i : Inputs) (steps looks : ℕ) : Type 0 where
   pub onSlope : OnSlope n t i
@@ -152,10 +153,13 @@ pub record Refuses (n : Vector) (t : ℤ) (i : Inputs) : Type 0 where
   pub isEight : answer .number ≡ 8
 
 pub record NotEmpty : Type 0 where
-  pub W1 : Accepts (vector (pos 1) (pos 2) (pos 5)) (pos 808) (ofWedge (wedgeOf (pos 1) (pos 2) (pos 5) (pos 808)) (at 100) (pos 0) (pos 8)) 5 116
-  pub W2 : Accepts (vector (pos 1) (pos 2) (pos 5)) (pos 801) (ofWedge (wedgeOf (pos 1) (pos 2) (pos 5) (pos 801)) (at 100) (pos 0) (pos 8)) 5 144
-  pub W8 : Accepts (vector (negsuc 0) (pos 2) (pos 5)) (pos 608) (ofWedge (wedgeOf (negsuc 0) (pos 2) (pos 5) (pos 608)) (at 100) (pos 1) (pos 8)) 5 116
+  pub W1 : Accepts (vector (pos 1) (pos 2) (pos 5)) (pos 808) (line (pos 1) (pos 2) (pos 5) (pos 808) (at 100) (pos 0) (pos 8)) 5 116
+  pub W2 : Accepts (vector (pos 1) (pos 2) (pos 5)) (pos 801) (line (pos 1) (pos 2) (pos 5) (pos 801) (at 100) (pos 0) (pos 8)) 5 144
+  pub W8 : Accepts (vector (negsuc 0) (pos 2) (pos 5)) (pos 608) (line (negsuc 0) (pos 2) (pos 5) (pos 608) (at 100) (pos 1) (pos 8)) 5 116
+  -- 1615/2 rounded up is 808, so this is W1's slope
+  pub twiceW1 : OnWedge (pos 2) (vector (pos 1) (pos 2) (pos 5)) (record { a = pos 2; b = pos 4; c = pos 10; h = pos 1615 }) (at 100) (pos 0) (pos 8)
+  pub twiceW1Accepts : Accepts (vector (pos 1) (pos 2) (pos 5)) (pos 808) (line (pos 2) (pos 4) (pos 10) (pos 1615) (at 100) (pos 0) (pos 8)) 5 116
   pub onStack : Accepts (at 1) (pos 12) (ofStack stair stairBytes (at 3) (pos 0) (pos 3)) 0 23
-  pub W7 : Refuses (at 1) (pos 3) (ofWedge (wedgeOf (pos 1) (pos 1) (pos 1) (pos 3)) (at 0) (pos 0) (pos 3))
+  pub W7 : Refuses (at 1) (pos 3) (line (pos 1) (pos 1) (pos 1) (pos 3) (at 0) (pos 0) (pos 3))
   -- w = 3 and K = 3: 2 + 3(6·3 - 9) = 29
-  pub reached : Accepts (at 1) (pos 301) (ofWedge (wedgeOf (pos 1) (pos 1) (pos 1) (pos 301)) (at 100) (pos 0) (pos 3)) 0 29
+  pub allLooks : Accepts (at 1) (pos 301) (line (pos 1) (pos 1) (pos 1) (pos 301) (at 100) (pos 0) (pos 3)) 0 29

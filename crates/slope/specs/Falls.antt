@@ -1,19 +1,19 @@
 -- On a slope a question that was answered answered whether n·u < 0. The apex is between 0 and less than R above the plane: a filled voxel at q + l·u is
 -- lower than q, so n·u < 0; and if n·u ≤ -1 the voxel at a power of at least R would be below the plane.
 use mathlib.Core.Path.{_≡_, sym}
-use mathlib.Core.Logic.{_⊎_, inl, inr}
+use mathlib.Core.Logic.{inl, inr}
 use mathlib.Core.Bool.{Bool, true, false}
 use mathlib.Core.List.{List, [], _∷_}
-use Prim.Native.Nat.{ℕ, zero, suc, _+_, _*_, _≤_}
+use Prim.Native.Nat.{ℕ, suc, _≤_}
 use native.Mathlib.Nat as NatL
 use native.Mathlib.Omega.{arith}
 use lib.IntN.{ℤ, pos, negsuc, _+ℤ_, _*ℤ_}
 use lib.Signed.{_≤ℤ_, _<ℤ_, ltZ, ltZ-yes}
-use Rattle.integers.specs.Order.{parts, linear, atom, goal, fact}
+use Rattle.integers.specs.Order.{parts, linear, atom, fact}
 use Rattle.rules.specs.declared.Vector.{Vector}
 use Rattle.rules.specs.declared.Look.{Look}
 use Rattle.rules.specs.declared.Look.the-variants.{Filled, Empty}
-use Rattle.rules.specs.Vectors.{_⊕_, scale, dot}
+use Rattle.rules.specs.Vectors.{scale, dot}
 use Rattle.laws.specs.Tests.{less, not-less}
 use Rattle.laws.specs.Parts.{dot-sum, dot-scale}
 use Rattle.laws.specs.Powers.{Reaches}

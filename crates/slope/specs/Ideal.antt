@@ -1,6 +1,6 @@
 -- The ideal walk: the walk of a normal n alone, with no solid, where a pair falls exactly if n·(m_l - m_k) < 0. Each height n·m_k stays at least 1 and a step
 -- lowers their sum by at least 1, so from a sum of w there are at most w - 3 steps; where no pair falls all heights are equal.
-use mathlib.Core.Path.{_≡_, refl, sym, _∙_}
+use mathlib.Core.Path.{_≡_, refl, _∙_}
 use mathlib.Core.Bool.{Bool, true, false}
 use mathlib.Core.List.{List, [], _∷_}
 use Prim.Native.Nat.{ℕ, zero, suc, _+_, _≤_}

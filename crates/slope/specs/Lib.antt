@@ -5,4 +5,5 @@ pub mod Falls
 pub mod Ideal
 pub mod Picks
 pub mod Wedges
+pub mod Cases
 pub mod Proved

@@ -7,7 +7,7 @@ use Prim.Native.Nat.{ℕ, zero, suc, _+_, _*_, _-_, _≤_}
 use native.Mathlib.Omega.{arith}
 use lib.Dec.{T, T-not, leb, le→leb}
 use lib.ListN.{length}
-use lib.IntN.{ℤ, pos, natAbs, negℤ, _+ℤ_}
+use lib.IntN.{ℤ, pos, natAbs, _+ℤ_}
 use lib.Signed.{_≤ℤ_, _<ℤ_, ltZ, ltZ-yes, ltZ-no}
 use Rattle.integers.specs.Order.{parts, linear, atom, goal, fact}
 use Rattle.rules.specs.declared.Vector.{Vector}
@@ -18,15 +18,15 @@ use Rattle.rules.specs.declared.Pair.{Pair}
 use Rattle.rules.specs.declared.Choice.{Choice}
 use Rattle.rules.specs.declared.Choice.the-variants.{Nothing, Chosen}
 use Rattle.rules.specs.Vectors.{_⊕_, minus, scale, dot, cross, det, lay, size, unit0, unit1, unit2}
-use Rattle.rules.specs.Asked.{Asked, answered, _>>=_, _>>_}
-use Rattle.rules.specs.Solids.{between, permitted, look}
-use Rattle.rules.specs.Walk.{Stop, stop, ensure, signs, powers, units, pairs, way, step, normal, keep, choice, Found, found, start, rounds}
+use Rattle.rules.specs.Asked.{Asked, answered, _>>_}
+use Rattle.rules.specs.Solids.{permitted, look}
+use Rattle.rules.specs.Walk.{Stop, stop, ensure, powers, units, pairs, way, step, normal, keep, choice, found, start, rounds}
 use Rattle.rules.specs.Pick.{isInside, pick}
 use Rattle.laws.specs.Tests.{less}
 use Rattle.laws.specs.Parts.{Positive, dot-minus, dot-unit0, dot-unit1, dot-unit2, scale-one}
-use Rattle.laws.specs.Triples.{All, equal-products}
+use Rattle.laws.specs.Triples.{equal-products}
 use Rattle.laws.specs.Frames.{signs-are, lay-lay, lay-dot, lay-scale, dot-apex, lay-size, sum-size}
-use Rattle.laws.specs.Says.{Says, says-answer, says-weaker, says-fewer, says-bind, says-asked, says-ensure}
+use Rattle.laws.specs.Says.{Says, says-answer, says-fewer, says-bind, says-asked, says-ensure}
 use Rattle.laws.specs.Looks.{As, IsOutside, Fell, FellOf, RoundOf, look-says, axes-says}
 use Rattle.laws.specs.Powers.{Reaches, powers-reach, up-to-reaches, looks-add-up}
 use Rattle.laws.specs.Walks.{WalkRule, walk-says}

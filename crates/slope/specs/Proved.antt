@@ -1,30 +1,24 @@
 -- Demand 3 is proved: each sentence is read off the ideal walk, which an accepted pick on a slope equals.
 use mathlib.Core.Path.{_≡_, refl, sym, ap, ap₂, subst, _∙_}
-use mathlib.Core.Bool.{Bool, not}
-use mathlib.Core.List.{List, []}
-use Prim.Native.Nat.{ℕ, _+_, _*_, _-_, _≤_}
+use Prim.Native.Nat.{ℕ, _+_, _*_, _-_}
 use native.Mathlib.Omega.{arith}
-use lib.IntN.{ℤ, pos, natAbs, _-ℤ_}
-use Rattle.integers.specs.Order.{parts, linear, atom, goal}
+use lib.IntN.{ℤ, pos, natAbs}
 use Rattle.rules.specs.declared.Vector.{Vector}
-use Rattle.rules.specs.declared.Look.{Look}
-use Rattle.rules.specs.declared.Triangle.{Triangle}
 use Rattle.rules.specs.declared.Pair.{Pair}
 use Rattle.rules.specs.declared.Accepted.{Accepted as AcceptedPick}
 use Rattle.rules.specs.declared.Pick.{Pick}
 use Rattle.rules.specs.declared.Pick.the-variants.{Accepted, Refused}
 use Rattle.rules.specs.Vectors.{dot, lay, size}
-use Rattle.rules.specs.Asked.{Asked}
 use Rattle.rules.specs.Solids.{permitted, look}
-use Rattle.rules.specs.Walk.{Stop, units, first, second, way, normal, Found, found}
+use Rattle.rules.specs.Walk.{units, first, second, way, normal, Found, found}
 use Rattle.rules.specs.Pick.{pick, pickOf}
 use Rattle.laws.specs.Parts.{dot-difference}
 use Rattle.laws.specs.Triples.{All, all-first, all-second}
 use Rattle.laws.specs.Frames.{signs-are, lay-lay, same-frame}
 use Rattle.laws.specs.Boxes.{outside-box}
-use Rattle.laws.specs.Answers.{laid, foundOf, stopOf, AnswerSays, answer-says}
+use Rattle.laws.specs.Answers.{laid, foundOf, AnswerSays, answer-says}
 use Rattle.laws.specs.Theorems.{accepted-products, accepted-sides}
-use Rattle.slope.specs.Demands.{Inputs, signsOf, apexOf, powersOf, pickAt, OnSlope, Combination, AcceptedWith, RefusedOutside, Demanded, Same, Demand3}
+use Rattle.slope.specs.Demands.{Inputs, signsOf, apexOf, powersOf, pickAt, OnSlope, Combination, Demanded, Same, Demand3}
 use Rattle.slope.specs.Ideal.{ideal, ideal-steps}
 use Rattle.slope.specs.Picks.{Edge, ideally, end-normal, pick-says}
 use Rattle.slope.specs.Wedges.{wedge-slope}
@@ -47,9 +41,10 @@ module _ (n : Vector) (t : ℤ) (i : Inputs) (o : OnSlope n t i) where
   unfolding found
   is-normal a e = ap (λ (f : Found). f .normal) (is-whole a e) ∙ end-normal n t i o
 
-  few-steps : (a : AcceptedPick) → pickAt i ≡ Accepted a → a .steps ≤ size n - 3
+  -- as many steps as the ideal walk
+  ideal-many : (a : AcceptedPick) → pickAt i ≡ Accepted a → a .steps ≡ ideally n t i o .1
   unfolding found
-  few-steps a e = omega (arith, ap (λ (f : Found). f .steps) (is-whole a e), ideal-steps (lay (signsOf i) n) (size n - 3) 0 units)
+  ideal-many a e = ap (λ (f : Found). f .steps) (is-whole a e)
 
   in-plane : (a : AcceptedPick) → pickAt i ≡ Accepted a → (side : Pair) → dot n (way (a .triangle) side) ≡ pos 0
   in-plane a e side =
@@ -66,7 +61,13 @@ module _ (n : Vector) (t : ℤ) (i : Inputs) (o : OnSlope n t i) where
   one-pick = go (pickAt i) refl said
     where
       go : (x : Pick) → pickAt i ≡ x → Said x → Demanded n i x
-      go (Accepted a) e h = record { isNormal = is-normal a e; fewSteps = few-steps a e; fewLooks = h .1; sidesInPlane = in-plane a e; sidesGenerate = generate a e }
+      go (Accepted a) e h = record {
+        isNormal = is-normal a e;
+        fewSteps = omega (arith, ideal-many a e, ideal-steps (lay (signsOf i) n) (size n - 3) 0 units);
+        fewLooks = omega (arith, h .1);
+        sidesInPlane = in-plane a e;
+        sidesGenerate = generate a e;
+      }
       go (Refused r) e h = record { isEight = h .0 .isEight; outside = outside-box (i .solid) (i .bytes) (r .place) (h .0 .outside) }
 
 -- ---- two picks: n has one frame, and the ideal walk knows nothing else

@@ -1,8 +1,8 @@
 -- A wedge whose numbers are g times n is the slope of n below t = h/g, rounded up: gx < h exactly if x < t.
-use mathlib.Core.Path.{_≡_, refl, sym, ap, _∙_}
+use mathlib.Core.Path.{_≡_, sym, ap, _∙_}
 use mathlib.Core.Logic.{_⊎_, inl, inr}
-use mathlib.Core.List.{List, [], _∷_}
-use Prim.Native.Nat.{ℕ, zero, suc}
+use mathlib.Core.List.{[], _∷_}
+use Prim.Native.Nat.{zero, suc}
 use native.Mathlib.Omega.{arith}
 use lib.IntN.{ℤ, pos, negsuc, _+ℤ_, _-ℤ_, _*ℤ_}
 use lib.Signed.{_≤ℤ_, _<ℤ_, ltZ}
@@ -10,7 +10,7 @@ use Rattle.integers.specs.Reify.{byring, sides}
 use Rattle.integers.specs.Order.{parts, linear, atom, goal, fact, *ℤ-mono}
 use Rattle.rules.specs.declared.Vector.{Vector}
 use Rattle.rules.specs.declared.Wedge.{Wedge}
-use Rattle.rules.specs.Vectors.{vector, scale, dot}
+use Rattle.rules.specs.Vectors.{dot}
 use Rattle.rules.specs.Solids.{filledWedge}
 use Rattle.laws.specs.Tests.{less, not-less, compared}
 use Rattle.laws.specs.Parts.{scale-dot}
@@ -78,17 +78,14 @@ module _ (g : ℤ) (one : pos 1 ≤ℤ g) where
           less (g *ℤ x) h (omega (arith, parts, *ℤ-mono from-zero k, c .least)) ∙ sym (less x (c .t) l)
       go (inr l) = not-less (g *ℤ x) h (omega (arith, parts, *ℤ-mono from-zero l, c .enough)) ∙ sym (not-less x (c .t) l)
 
-pub wedge-slope : (g : ℤ) (n : Vector) (wedge : Wedge) (p : Vector) (frame reach : ℤ) → OnWedge g n wedge p frame reach → (t : ℤ) × OnSlope n t (ofWedge wedge p frame reach)
+pub multiple-slope : (g : ℤ) (n : Vector) (wedge : Wedge) (p : Vector) (frame reach : ℤ) → OnWedge g n wedge p frame reach → (c : Ceiling g (wedge .h)) → OnSlope n (c .t) (ofWedge wedge p frame reach)
 unfolding filledWedge
-wedge-slope g n wedge p frame reach o = (
-  c .t,
-  record {
-    permitted = o .permitted;
-    direction = o .direction;
-    filledBelow = λ v _. ap (λ (a : Vector). ltZ (dot a v) (wedge .h)) (o .multiple) ∙ ap (λ (z : ℤ). ltZ z (wedge .h)) (scale-dot n v g) ∙ same-test g (o .atLeastOnce) (wedge .h) c (dot n v);
-    touched = o .touched;
-  },
-)
-  where
-    c : Ceiling g (wedge .h)
-    c = ceiling g (o .atLeastOnce) (wedge .h)
+multiple-slope g n wedge p frame reach o c = record {
+  permitted = o .permitted;
+  direction = o .direction;
+  filledBelow = λ v _. ap (λ (a : Vector). ltZ (dot a v) (wedge .h)) (o .multiple) ∙ ap (λ (z : ℤ). ltZ z (wedge .h)) (scale-dot n v g) ∙ same-test g (o .atLeastOnce) (wedge .h) c (dot n v);
+  touched = o .touched;
+}
+
+pub wedge-slope : (g : ℤ) (n : Vector) (wedge : Wedge) (p : Vector) (frame reach : ℤ) → OnWedge g n wedge p frame reach → (t : ℤ) × OnSlope n t (ofWedge wedge p frame reach)
+wedge-slope g n wedge p frame reach o = let c = ceiling g (o .atLeastOnce) (wedge .h) in (c .t, multiple-slope g n wedge p frame reach o c)
