@@ -20,7 +20,8 @@ use Rattle.rules.specs.Solids.{permitted, look}
 use Rattle.rules.specs.Walk.{Stop, stop, powers, triangle, way, normal, Found, found}
 use Rattle.rules.specs.Pick.{pick, answer, pickOf}
 use Rattle.laws.specs.Parts.{Positive}
-use Rattle.laws.specs.Triples.{All, detOf, normal-dot, tame-normal, sides-generate}
+use Rattle.laws.specs.Triples.{All, detOf, normal-dot, sides-generate}
+use Rattle.laws.specs.Tame.{tame-normal}
 use Rattle.laws.specs.Says.{Says}
 use Rattle.laws.specs.Frames.{Signs, lay-lay, lay-dot, lay-scale, lay-difference, lay-sum}
 use Rattle.laws.specs.Picks.{Told, Accepting, Picked, pick-says}

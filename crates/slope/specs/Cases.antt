@@ -35,7 +35,7 @@ factor-of-one zero y e = absurd (omega arith)
 factor-of-one (suc k) zero e = absurd (omega arith)
 factor-of-one (suc k) (suc y) e = omega (arith, NatL.mul-suc (suc k) y)
 
-no-divisor : (n : Vector) → natAbs (n .x) ≡ 1 → (d : ℤ) (u : Vector) → pos 1 ≤ℤ d → n ≡ scale d u → d ≡ pos 1
+no-divisor : (n : Vector) → natAbs (n .x) ≡ 1 → (d : ℤ) (u : Vector) → pos 0 ≤ℤ d → n ≡ scale d u → d ≡ pos 1
 unfolding scale
 no-divisor n one (pos k) u h e = ap pos (factor-of-one k (natAbs (u .x)) (sym (product-size (pos k) (u .x)) ∙ sym (ap (λ (a : Vector). natAbs (a .x)) e) ∙ one))
 no-divisor n one (negsuc k) u h e = absurd (h .le)
@@ -76,7 +76,7 @@ on-wedge : (g : ℤ) {n : Vector} {a b c h : ℤ} {p : Vector} {frame reach : �
     → OnWedge g n (wedgeOf a b c h) p frame reach
 on-wedge g {n = n} r f k x y z one fits once multiple filled empty = record {
   permitted = record { permittedReach = r; permittedFrame = f; permittedSolid = k };
-  direction = record { signed = record { ofX = leZ-yes x; ofY = leZ-yes y; ofZ = leZ-yes z }; noCommonDivisor = no-divisor n one; withinReach = leZ-yes fits };
+  direction = record { signed = record { ofX = leZ-yes x; ofY = leZ-yes y; ofZ = leZ-yes z }; noCommonDivisor = λ d u h e. no-divisor n one d u (omega (arith, parts)) e; withinReach = leZ-yes fits };
   atLeastOnce = leZ-yes once;
   multiple = multiple;
   touched = record { startFilled = filled; apexEmpty = empty };
@@ -129,7 +129,7 @@ on-stair : OnSlope (at 1) (pos 12) (ofStack stair stairBytes (at 3) (pos 0) (pos
 unfolding between permittedStack stackBytes sliceBytes rowBytes stairBytes slices rows row lay signs sign size look inBox voxel filledStack _⊕_
 on-stair = record {
   permitted = record { permittedReach = tt; permittedFrame = tt; permittedSolid = tt };
-  direction = record { signed = record { ofX = leZ-yes tt; ofY = leZ-yes tt; ofZ = leZ-yes tt }; noCommonDivisor = no-divisor (at 1) refl; withinReach = leZ-yes tt };
+  direction = record { signed = record { ofX = leZ-yes tt; ofY = leZ-yes tt; ofZ = leZ-yes tt }; noCommonDivisor = λ d u h e. no-divisor (at 1) refl d u (omega (arith, parts)) e; withinReach = leZ-yes tt };
   filledBelow = stair-below;
   touched = record { startFilled = refl; apexEmpty = refl };
 }
@@ -144,5 +144,6 @@ not-empty = record {
   twiceW1Accepts = accepts (on-line (on-wedge (pos 2) tt tt tt tt tt tt refl tt tt refl refl refl) tt tt) refl;
   onStack = accepts on-stair refl;
   W7 = refuses (on-line (on-wedge (pos 1) tt tt tt tt tt tt refl tt tt refl refl refl) tt tt) refl;
+  allowed = refl;
   allLooks = accepts (on-line (on-wedge (pos 1) tt tt tt tt tt tt refl tt tt refl refl refl) tt tt) refl;
 }

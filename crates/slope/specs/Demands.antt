@@ -1,4 +1,5 @@
--- Demand 3: on every slope, from every start. Statements only, in the demand's order and words; proved by `demand-3 : Demand3` in `Proved` and `not-empty : NotEmpty` in `Cases`.
+-- Demand 3: on every slope, from every start. Statements only, in the demand's order and words.
+-- They are proved: `demand-3 : Demand3` in `Proved`, `not-empty : NotEmpty` in `Cases`.
 use mathlib.Core.Path.{_≡_}
 use mathlib.Core.Bool.{not}
 use mathlib.Core.List.{List, []}
@@ -54,7 +55,8 @@ pub record Permitted (i : Inputs) : Type 0 where
   pub permittedFrame : T (between (pos 0) (i .frame) (pos 7))
   pub permittedSolid : T (permitted (i .solid) (i .bytes))
 
--- n has three non-zero whole components, with the frame's signs (laid into the frame each is at least 1) and no common divisor, and their sizes add up to at most the reach
+-- n has three non-zero whole components with the frame's signs (in the frame each is at least 1) and no common divisor;
+-- w, the sum of their sizes, is at most the reach
 pub record Direction (n : Vector) (i : Inputs) : Type 0 where
   pub signed : Positive (lay (signsOf i) n)
   pub noCommonDivisor : (d : ℤ) (u : Vector) → pos 1 ≤ℤ d → n ≡ scale d u → d ≡ pos 1
@@ -79,7 +81,8 @@ pub record Combination (m : Triangle) (v : Vector) : Type 0 where
   pub c2 : ℤ
   pub is : v ≡ scale c1 (way m P01) ⊕ scale c2 (way m P02)
 
--- accepted with normal n; with w the sum of n's sizes (it is at least 3), at most w - 3 steps and 2 + K(6w - 9) looks; the sides lie in the plane and generate it
+-- accepted with normal n, after at most w - 3 steps and 2 + K(6w - 9) looks (w is at least 3);
+-- the sides lie in the plane, and every whole vector of the plane is a whole combination of them
 pub record AcceptedWith (n : Vector) (i : Inputs) (a : AcceptedPick) : Type 0 where
   pub isNormal : a .normal ≡ n
   pub fewSteps : a .steps ≤ size n - 3
@@ -130,7 +133,8 @@ pub record Demand3 : Type 0 where
   pub stackPick : (n : Vector) (t : ℤ) (stack : Stack) (bytes : List ℕ) (p : Vector) (frame reach : ℤ) → OnSlope n t (ofStack stack bytes p frame reach)
       → (r : Pick) → StackPromise stack bytes p frame reach r → Demanded n (ofStack stack bytes p frame reach) r
 
--- ---- not empty: what is assumed holds of W1, W2, W8, of a wedge with a common divisor and of a stack, and the answer is the normal; it holds of W7, and the answer is 8; and the looks allowed are taken
+-- ---- not empty: what is assumed holds of W1, W2, W8, of a wedge with a common divisor and of a stack, and the answer is the normal;
+-- it holds of W7, and the answer is 8; and the bound on the looks is reached
 abbrev pub at : ℕ → Vector
 at k = vector (pos k) (pos k) (pos k)
 
@@ -161,5 +165,6 @@ pub record NotEmpty : Type 0 where
   pub twiceW1Accepts : Accepts (vector (pos 1) (pos 2) (pos 5)) (pos 808) (line (pos 2) (pos 4) (pos 10) (pos 1615) (at 100) (pos 0) (pos 8)) 5 116
   pub onStack : Accepts (at 1) (pos 12) (ofStack stair stairBytes (at 3) (pos 0) (pos 3)) 0 23
   pub W7 : Refuses (at 1) (pos 3) (line (pos 1) (pos 1) (pos 1) (pos 3) (at 0) (pos 0) (pos 3))
-  -- w = 3 and K = 3: 2 + 3(6·3 - 9) = 29
+  -- all the looks allowed: w = 3 and K = 3, so 2 + K(6w - 9) = 29
   pub allLooks : Accepts (at 1) (pos 301) (line (pos 1) (pos 1) (pos 1) (pos 301) (at 100) (pos 0) (pos 3)) 0 29
+  pub allowed : 2 + powersOf (line (pos 1) (pos 1) (pos 1) (pos 301) (at 100) (pos 0) (pos 3)) * (6 * size (at 1) - 9) ≡ 29

@@ -3,6 +3,7 @@ pub mod Stair
 pub mod Demands
 pub mod Falls
 pub mod Ideal
+pub mod Rounds
 pub mod Picks
 pub mod Wedges
 pub mod Cases

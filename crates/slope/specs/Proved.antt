@@ -20,7 +20,8 @@ use Rattle.laws.specs.Answers.{laid, foundOf, AnswerSays, answer-says}
 use Rattle.laws.specs.Theorems.{accepted-products, accepted-sides}
 use Rattle.slope.specs.Demands.{Inputs, signsOf, apexOf, powersOf, pickAt, OnSlope, Combination, Demanded, Same, Demand3}
 use Rattle.slope.specs.Ideal.{ideal, ideal-steps}
-use Rattle.slope.specs.Picks.{Edge, ideally, end-normal, pick-says}
+use Rattle.slope.specs.Picks.{ideally, end-normal, pick-says}
+use Rattle.slope.specs.Rounds.{Edge}
 use Rattle.slope.specs.Wedges.{wedge-slope}
 
 module _ (n : Vector) (t : ℤ) (i : Inputs) (o : OnSlope n t i) where
