@@ -48,6 +48,10 @@ pub dot-scale : (n a : Vector) (l : ℤ) → dot n (scale l a) ≡ l *ℤ dot n 
 unfolding dot scale
 dot-scale n a l = byring (l ∷ of2 n a) (search sides depth 40 fits 30000) tt
 
+pub scale-dot : (n a : Vector) (l : ℤ) → dot (scale l n) a ≡ l *ℤ dot n a
+unfolding dot scale
+scale-dot n a l = byring (l ∷ of2 n a) (search sides depth 40 fits 30000) tt
+
 pub dot-unit0 : (n : Vector) → dot n unit0 ≡ n .x
 unfolding dot
 dot-unit0 n = byring (n .x ∷ n .y ∷ n .z ∷ []) (search sides depth 40 fits 30000) tt

@@ -19,7 +19,7 @@ use Rattle.rules.specs.Solids.{between}
 use Rattle.rules.specs.Walk.{Stop, stop, signs, powers, units, way, pairs, normal, keep, Found, found, start, rounds}
 use Rattle.rules.specs.Pick.{pick}
 use Rattle.laws.specs.Tests.{Each}
-use Rattle.laws.specs.Triples.{Tame, units-tame, step-tame}
+use Rattle.laws.specs.Tame.{Tame, units-tame, step-tame}
 use Rattle.laws.specs.Choosing.{choice-exists}
 use Rattle.laws.specs.Says.{Says, says-answer, says-weaker, says-bind, says-asked, says-ensure}
 use Rattle.laws.specs.Looks.{IsOutside, Fell, FellOf, look-says, axes-says}
