@@ -1,7 +1,7 @@
 -- Three sizes of at most 10^9 add up within 32 bits. Each is that of a part, which is read back from bits.
 use borrow.Author.Needs.{needs}
 use mathlib.Core.Path.{_≡_, ap₂, _∙_}
-use Prim.Native.Nat.{ℕ, _+_, _≤_}
+use Prim.Native.Nat.{ℕ, _+_}
 use native.Mathlib.Omega.{arith}
 use lib.IntN.{ℤ, natAbs}
 use mir.Syntax.{w32}
