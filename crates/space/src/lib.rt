@@ -1,11 +1,11 @@
 // Whole vectors in i32, their products in i64. Each function equals the definition of its name, on vectors small enough.
 ghost use mathlib.Core.Path.{_≡_};
-ghost use Prim.Native.Nat.{_≤_};
-ghost use lib.IntN.{natAbs, _-ℤ_, _*ℤ_};
+ghost use lib.IntN.{_-ℤ_, _*ℤ_};
 ghost use Rattle.integers.specs.Sizes.{Within};
 ghost use Rattle.rules.specs.Vectors.{_⊕_, _⊖_, minus, scale, dot, cross, sphere, lay, size};
 ghost use Rattle.space.specs.Bounds.{Bounded};
 use rules::Vector;
+use size::size_of;
 
 pub fn add(a: Vector, b: Vector) -> Vector
     requires { ⌜ Bounded 1000000000 a × Bounded 1000000000 b ⌝ }
@@ -63,21 +63,14 @@ pub fn lay(s: Vector, a: Vector) -> Vector
     }
 }
 
-fn part_size(x: i32) -> u32
-    requires { ⌜ Within 1000000000 x ⌝ }
-    ensures { λ r. ⌜ (r ≡ natAbs x) × (r ≤ 1000000000) ⌝ }
-{
-    if x < 0 { (-x) as u32 } else { x as u32 }
-}
-
 // The sizes of the parts, added up.
 pub fn size(a: Vector) -> u32
     requires { ⌜ Bounded 1000000000 a ⌝ }
     ensures { λ r. ⌜ r ≡ size a ⌝ }
 {
-    let x = part_size(a.x);
-    let y = part_size(a.y);
-    let z = part_size(a.z);
+    let x = size_of(a.x);
+    let y = size_of(a.y);
+    let z = size_of(a.z);
     x + y + z
 }
 
