@@ -30,19 +30,19 @@ turned P21 = P12
 
 cross-right : (a b c : Vector) → cross a (b ⊖ c) ≡ cross c a ⊕ cross a b
 unfolding cross _⊕_ _⊖_
-cross-right a b c = vector-eq (byring (of3 a b c) (search sides depth 40 fits 30000) tt) (byring (of3 a b c) (search sides depth 40 fits 30000) tt) (byring (of3 a b c) (search sides depth 40 fits 30000) tt)
+cross-right a b c = vector-eq (byring (of3 a b c) (search sides depth 40 fits 5000) tt) (byring (of3 a b c) (search sides depth 40 fits 5000) tt) (byring (of3 a b c) (search sides depth 40 fits 5000) tt)
 
 cross-left : (a b c : Vector) → cross (b ⊖ c) a ≡ cross a c ⊕ cross b a
 unfolding cross _⊕_ _⊖_
-cross-left a b c = vector-eq (byring (of3 a b c) (search sides depth 40 fits 30000) tt) (byring (of3 a b c) (search sides depth 40 fits 30000) tt) (byring (of3 a b c) (search sides depth 40 fits 30000) tt)
+cross-left a b c = vector-eq (byring (of3 a b c) (search sides depth 40 fits 5000) tt) (byring (of3 a b c) (search sides depth 40 fits 5000) tt) (byring (of3 a b c) (search sides depth 40 fits 5000) tt)
 
 same-left : (a b : Vector) → cross (a ⊖ b) b ≡ cross a b
 unfolding cross _⊖_
-same-left a b = vector-eq (byring (of2 a b) (search sides depth 40 fits 30000) tt) (byring (of2 a b) (search sides depth 40 fits 30000) tt) (byring (of2 a b) (search sides depth 40 fits 30000) tt)
+same-left a b = vector-eq (byring (of2 a b) (search sides depth 40 fits 5000) tt) (byring (of2 a b) (search sides depth 40 fits 5000) tt) (byring (of2 a b) (search sides depth 40 fits 5000) tt)
 
 same-right : (a b : Vector) → cross b (a ⊖ b) ≡ cross b a
 unfolding cross _⊖_
-same-right a b = vector-eq (byring (of2 a b) (search sides depth 40 fits 30000) tt) (byring (of2 a b) (search sides depth 40 fits 30000) tt) (byring (of2 a b) (search sides depth 40 fits 30000) tt)
+same-right a b = vector-eq (byring (of2 a b) (search sides depth 40 fits 5000) tt) (byring (of2 a b) (search sides depth 40 fits 5000) tt) (byring (of2 a b) (search sides depth 40 fits 5000) tt)
 
 triangle-eq : {a b c d e f : Vector} → a ≡ d → b ≡ e → c ≡ f → triangle a b c ≡ triangle d e f
 triangle-eq p q r = λ i. record { m0 = p i; m1 = q i; m2 = r i }
@@ -83,7 +83,7 @@ step-tame m x t = record {
 
 -- ---- each part of the normal is at least 1
 all-zero : (x y z : ℤ) → pos 0 *ℤ x +ℤ pos 0 *ℤ y +ℤ pos 0 *ℤ z ≡ pos 0
-all-zero x y z = byring (x ∷ y ∷ z ∷ []) (search sides depth 40 fits 30000) tt
+all-zero x y z = byring (x ∷ y ∷ z ∷ []) (search sides depth 40 fits 5000) tt
 
 not-all-zero : (a b c x y z : ℤ) {d : ℤ} → d ≡ pos 1 → a *ℤ x +ℤ b *ℤ y +ℤ c *ℤ z ≡ d → pos 0 ≤ℤ a → pos 0 ≤ℤ b → pos 0 ≤ℤ c → pos 1 ≤ℤ (c +ℤ a +ℤ b)
 not-all-zero a b c x y z one e ha hb hc = go (compared (c +ℤ a +ℤ b) (pos 1))
@@ -103,7 +103,7 @@ unfolding normal _⊕_ det dot cross
 tame-normal m t =
     let b = crosses m in let up = t .upward in
     record {
-      ofX = not-all-zero (b .m0 .x) (b .m1 .x) (b .m2 .x) (m .m0 .x) (m .m1 .x) (m .m2 .x) (t .unimodular) (byring (of9 m) (search sides depth 40 fits 30000) tt) (up .of0 .ofX) (up .of1 .ofX) (up .of2 .ofX);
-      ofY = not-all-zero (b .m0 .y) (b .m1 .y) (b .m2 .y) (m .m0 .y) (m .m1 .y) (m .m2 .y) (t .unimodular) (byring (of9 m) (search sides depth 40 fits 30000) tt) (up .of0 .ofY) (up .of1 .ofY) (up .of2 .ofY);
-      ofZ = not-all-zero (b .m0 .z) (b .m1 .z) (b .m2 .z) (m .m0 .z) (m .m1 .z) (m .m2 .z) (t .unimodular) (byring (of9 m) (search sides depth 40 fits 30000) tt) (up .of0 .ofZ) (up .of1 .ofZ) (up .of2 .ofZ);
+      ofX = not-all-zero (b .m0 .x) (b .m1 .x) (b .m2 .x) (m .m0 .x) (m .m1 .x) (m .m2 .x) (t .unimodular) (byring (of9 m) (search sides depth 40 fits 5000) tt) (up .of0 .ofX) (up .of1 .ofX) (up .of2 .ofX);
+      ofY = not-all-zero (b .m0 .y) (b .m1 .y) (b .m2 .y) (m .m0 .y) (m .m1 .y) (m .m2 .y) (t .unimodular) (byring (of9 m) (search sides depth 40 fits 5000) tt) (up .of0 .ofY) (up .of1 .ofY) (up .of2 .ofY);
+      ofZ = not-all-zero (b .m0 .z) (b .m1 .z) (b .m2 .z) (m .m0 .z) (m .m1 .z) (m .m2 .z) (t .unimodular) (byring (of9 m) (search sides depth 40 fits 5000) tt) (up .of0 .ofZ) (up .of1 .ofZ) (up .of2 .ofZ);
     }

@@ -26,7 +26,8 @@ use Rattle.rules.specs.Asked.{answered}
 use Rattle.rules.specs.Walk.{signs, powers, units, second, way, step, determinant, inside, choice, round}
 use Rattle.rules.specs.Pick.{isInside, pickOf}
 use Rattle.laws.specs.Parts.{Positive}
-use Rattle.laws.specs.Triples.{All, detOf}
+use Rattle.laws.specs.Triples.{All, detOf, step-det}
+use Rattle.laws.specs.Tame.{units-tame}
 use Rattle.laws.specs.Choosing as Choosing
 use Rattle.laws.specs.Frames.{signs-are}
 use Rattle.laws.specs.Powers as Powers
@@ -43,6 +44,13 @@ use Rattle.laws.specs.Frames.{Signs}
 -- ---- the powers are 1, 2, 4, .. up to the first that is at least R
 pub powers-reach : (R : ℕ) → UpTo R 1 (powers R)
 powers-reach = Powers.powers-reach
+
+-- ---- the triangle's determinant is 1 at the beginning, and every step keeps it
+pub units-determinant : detOf units ≡ pos 1
+units-determinant = units-tame .unimodular
+
+pub step-determinant : (m : Triangle) (x : Pair) → detOf (step m x) ≡ detOf m
+step-determinant = step-det
 
 -- ---- the choice: document 01's determinant is twice a difference, so strictly inside is a smaller m_l·(m_l - m_k)
 pub determinant-is : (m : Triangle) (x y : Pair) → detOf m ≡ pos 1 → determinant m x y ≡ pos 2 *ℤ (dot (second m y) (way m y) -ℤ dot (second m x) (way m x))

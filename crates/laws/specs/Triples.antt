@@ -55,46 +55,46 @@ of12 m a = a .x ∷ a .y ∷ a .z ∷ of9 m
 
 pub step-det : (m : Triangle) (x : Pair) → detOf (step m x) ≡ detOf m
 unfolding det dot cross _⊖_
-step-det m P01 = byring (of9 m) (search sides depth 40 fits 30000) tt
-step-det m P02 = byring (of9 m) (search sides depth 40 fits 30000) tt
-step-det m P10 = byring (of9 m) (search sides depth 40 fits 30000) tt
-step-det m P12 = byring (of9 m) (search sides depth 40 fits 30000) tt
-step-det m P20 = byring (of9 m) (search sides depth 40 fits 30000) tt
-step-det m P21 = byring (of9 m) (search sides depth 40 fits 30000) tt
+step-det m P01 = byring (of9 m) (search sides depth 40 fits 5000) tt
+step-det m P02 = byring (of9 m) (search sides depth 40 fits 5000) tt
+step-det m P10 = byring (of9 m) (search sides depth 40 fits 5000) tt
+step-det m P12 = byring (of9 m) (search sides depth 40 fits 5000) tt
+step-det m P20 = byring (of9 m) (search sides depth 40 fits 5000) tt
+step-det m P21 = byring (of9 m) (search sides depth 40 fits 5000) tt
 
 pub normal-dot : (m : Triangle) → All (λ a. dot (normal m) a ≡ detOf m) m
 unfolding det dot cross normal _⊕_
 normal-dot m = record {
-  of0 = byring (of9 m) (search sides depth 40 fits 30000) tt;
-  of1 = byring (of9 m) (search sides depth 40 fits 30000) tt;
-  of2 = byring (of9 m) (search sides depth 40 fits 30000) tt;
+  of0 = byring (of9 m) (search sides depth 40 fits 5000) tt;
+  of1 = byring (of9 m) (search sides depth 40 fits 5000) tt;
+  of2 = byring (of9 m) (search sides depth 40 fits 5000) tt;
 }
 
 -- ---- the cross products
 abbrev pub crosses : Triangle → Triangle
 crosses m = triangle (cross (m .m1) (m .m2)) (cross (m .m2) (m .m0)) (cross (m .m0) (m .m1))
 
--- a v that is Σ c_k a_k
+-- a m0 + b m1 + c m2
 abbrev pub combined : Triangle → ℤ → ℤ → ℤ → Vector
 combined m a b c = scale a (m .m0) ⊕ scale b (m .m1) ⊕ scale c (m .m2)
 
 pub expand : (m : Triangle) (v : Vector) → scale (detOf m) v ≡ combined m (dot (crosses m .m0) v) (dot (crosses m .m1) v) (dot (crosses m .m2) v)
 unfolding det dot cross scale _⊕_
 expand m v = vector-eq
-    (byring (of12 m v) (search sides depth 40 fits 30000) tt)
-    (byring (of12 m v) (search sides depth 40 fits 30000) tt)
-    (byring (of12 m v) (search sides depth 40 fits 30000) tt)
+    (byring (of12 m v) (search sides depth 40 fits 5000) tt)
+    (byring (of12 m v) (search sides depth 40 fits 5000) tt)
+    (byring (of12 m v) (search sides depth 40 fits 5000) tt)
 
 pub expand-crosses : (m : Triangle) (v : Vector) → scale (detOf m) v ≡ combined (crosses m) (dot v (m .m0)) (dot v (m .m1)) (dot v (m .m2))
 unfolding det dot cross scale _⊕_
 expand-crosses m v = vector-eq
-    (byring (of12 m v) (search sides depth 40 fits 30000) tt)
-    (byring (of12 m v) (search sides depth 40 fits 30000) tt)
-    (byring (of12 m v) (search sides depth 40 fits 30000) tt)
+    (byring (of12 m v) (search sides depth 40 fits 5000) tt)
+    (byring (of12 m v) (search sides depth 40 fits 5000) tt)
+    (byring (of12 m v) (search sides depth 40 fits 5000) tt)
 
 -- ---- a vector whose products with m0, m1 and m2 are equal is a multiple of the normal
 together : (a x y z : ℤ) → a *ℤ x +ℤ a *ℤ y +ℤ a *ℤ z ≡ a *ℤ (z +ℤ x +ℤ y)
-together a x y z = byring (a ∷ x ∷ y ∷ z ∷ []) (search sides depth 40 fits 30000) tt
+together a x y z = byring (a ∷ x ∷ y ∷ z ∷ []) (search sides depth 40 fits 5000) tt
 
 combined-same : (b : Triangle) (a : ℤ) → combined b a a a ≡ scale a (b .m2 ⊕ b .m0 ⊕ b .m1)
 unfolding scale _⊕_
@@ -107,10 +107,10 @@ equal-products n m d e f = sym (scale-one n) ∙ (rw (d, e, f) at (expand-crosse
 -- ---- the sides generate every whole vector of the plane
 normal-parts : (m : Triangle) (v : Vector) → dot (normal m) v ≡ dot (crosses m .m0) v +ℤ dot (crosses m .m1) v +ℤ dot (crosses m .m2) v
 unfolding dot normal _⊕_ cross
-normal-parts m v = byring (of12 m v) (search sides depth 40 fits 30000) tt
+normal-parts m v = byring (of12 m v) (search sides depth 40 fits 5000) tt
 
 leaning : (a b c x y z : ℤ) → a +ℤ b +ℤ c ≡ pos 0 → a *ℤ x +ℤ b *ℤ y +ℤ c *ℤ z ≡ b *ℤ (y -ℤ x) +ℤ c *ℤ (z -ℤ x)
-leaning a b c x y z e = by-eq x e (byring (a ∷ b ∷ c ∷ x ∷ y ∷ z ∷ []) (search sides depth 40 fits 30000) tt)
+leaning a b c x y z e = by-eq x e (byring (a ∷ b ∷ c ∷ x ∷ y ∷ z ∷ []) (search sides depth 40 fits 5000) tt)
 
 pub sides-generate : (m : Triangle) (v : Vector) → detOf m ≡ pos 1 → dot (normal m) v ≡ pos 0 → (c1 : ℤ) × (c2 : ℤ) × (v ≡ scale c1 (way m P01) ⊕ scale c2 (way m P02))
 unfolding scale _⊕_ _⊖_

@@ -58,17 +58,17 @@ module _ (n : Vector) where
   four m a = dot n a ∷ dot n (m .m0) ∷ dot n (m .m1) ∷ dot n (m .m2) ∷ []
 
   heights-with : (m : Triangle) (x : Pair) (a : Vector) → heights (with m x a) ≡ heights m -ℤ dot n (first m x) +ℤ dot n a
-  heights-with m P01 a = byring (four m a) (search sides depth 40 fits 30000) tt
-  heights-with m P02 a = byring (four m a) (search sides depth 40 fits 30000) tt
-  heights-with m P10 a = byring (four m a) (search sides depth 40 fits 30000) tt
-  heights-with m P12 a = byring (four m a) (search sides depth 40 fits 30000) tt
-  heights-with m P20 a = byring (four m a) (search sides depth 40 fits 30000) tt
-  heights-with m P21 a = byring (four m a) (search sides depth 40 fits 30000) tt
+  heights-with m P01 a = byring (four m a) (search sides depth 40 fits 5000) tt
+  heights-with m P02 a = byring (four m a) (search sides depth 40 fits 5000) tt
+  heights-with m P10 a = byring (four m a) (search sides depth 40 fits 5000) tt
+  heights-with m P12 a = byring (four m a) (search sides depth 40 fits 5000) tt
+  heights-with m P20 a = byring (four m a) (search sides depth 40 fits 5000) tt
+  heights-with m P21 a = byring (four m a) (search sides depth 40 fits 5000) tt
 
   step-heights : (m : Triangle) (x : Pair) → heights (step m x) ≡ heights m -ℤ dot n (second m x)
   step-heights m x =
       heights-with m x (first m x ⊖ second m x)
-      ∙ rw (dot-difference n (first m x) (second m x)) (byring (heights m ∷ dot n (first m x) ∷ dot n (second m x) ∷ []) (search sides depth 40 fits 30000) tt)
+      ∙ rw (dot-difference n (first m x) (second m x)) (byring (heights m ∷ dot n (first m x) ∷ dot n (second m x) ∷ []) (search sides depth 40 fits 5000) tt)
 
   -- the sum falls by at least 1, and never below 3
   three : (m : Triangle) → Upright m → pos 3 ≤ℤ heights m

@@ -14,7 +14,6 @@ use Rattle.rules.specs.declared.Pair.{Pair}
 use Rattle.rules.specs.declared.Choice.{Choice}
 use Rattle.rules.specs.declared.Choice.the-variants.{Nothing, Chosen}
 use Rattle.rules.specs.Vectors.{dot, lay}
-use Rattle.rules.specs.Solids.{look}
 use Rattle.rules.specs.Walk.{Stop, stop, pairs, way, step, keep, choice}
 use Rattle.laws.specs.Frames.{lay-dot}
 use Rattle.laws.specs.Looks.{IsOutside, Fell, FellOf, RoundOf}

@@ -24,13 +24,13 @@ pub record Ceiling (g h : ℤ) : Type 0 where
 
 module _ (g : ℤ) (one : pos 1 ≤ℤ g) where
   next : (t : ℤ) → g *ℤ (t +ℤ pos 1) ≡ g *ℤ t +ℤ g
-  next t = byring (g ∷ t ∷ []) (search sides depth 40 fits 30000) tt
+  next t = byring (g ∷ t ∷ []) (search sides depth 40 fits 5000) tt
 
   back : (t : ℤ) → g *ℤ (t +ℤ pos 1 -ℤ pos 1) ≡ g *ℤ t
-  back t = byring (g ∷ t ∷ []) (search sides depth 40 fits 30000) tt
+  back t = byring (g ∷ t ∷ []) (search sides depth 40 fits 5000) tt
 
   lower : (t : ℤ) → g *ℤ (t -ℤ pos 1 -ℤ pos 1) ≡ g *ℤ (t -ℤ pos 1) -ℤ g
-  lower t = byring (g ∷ t ∷ []) (search sides depth 40 fits 30000) tt
+  lower t = byring (g ∷ t ∷ []) (search sides depth 40 fits 5000) tt
 
   -- from h to h + 1, and down
   up : {h k : ℤ} → k ≡ h +ℤ pos 1 → Ceiling g h → Ceiling g k
