@@ -1,3 +1,5 @@
 pub mod Judging
 pub mod Stores
 pub mod Rows
+pub mod Scans
+pub mod Headers
