@@ -3,3 +3,4 @@ pub mod Stores
 pub mod Rows
 pub mod Scans
 pub mod Headers
+pub mod Images

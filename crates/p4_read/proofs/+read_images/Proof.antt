@@ -1,18 +1,22 @@
-use Prim.Native.Nat.{ℕ, _<_}
+-- The measure is the number of images that may follow.
+use Prim.Native.Nat.{ℕ, _-_, _<_}
+use native.Mathlib.Omega.{arith}
+use borrow.Author.Needs.{needs}
 use borrow.Fn.Kinds.{In}
 use borrow.Fn.PlainCycle.{Measures, is, falls, and}
+use Rattle.p4_rows.proofs.copy_rows.Reads as copy-rows-reads
+use Rattle.p4_rows.proofs.slice_bytes.Reads as slice-bytes-reads
+use Rattle.p4_read.proofs.Reading.{part-short, part-done, part-full, part-not, part-refused, part-stack, rows-in, next-asked, next-before, copy-room, sides}
+use Rattle.p4_read.proofs.find_rows.Reads as find-rows-reads
+use Rattle.p4_read.proofs.stack_of.Reads as stack-of-reads
 use Rattle.p4_read.proofs.read_images.Reads as read-images
 use Rattle.p4_read.proofs.read_images.Kinds as read-images-kinds
 use Rattle.p4_read.proofs.+read_images.Lts-read_images as read-images-lts
-use Rattle.p4_read.proofs.find_rows.Reads as find-rows-reads
-use Rattle.p4_read.proofs.stack_of.Reads as stack-of-reads
-use Rattle.p4_rows.proofs.copy_rows.Reads as copy-rows-reads
-use Rattle.p4_rows.proofs.slice_bytes.Reads as slice-bytes-reads
 use Rattle.p4_read.proofs.+read_images.{statement}
 use Rattle.p4_read.proofs.+read_images.Tie.{close}
 
 abbrev μ-read-images : Measures 2 read-images-kinds.ps ℕ
-μ-read-images κs a = ?
+μ-read-images κs a = 256 - a .1 .1 .1 .1 .0
 
 abbrev read-images-at : ℕ → In 2 read-images-kinds.ps
 read-images-at t =
@@ -22,308 +26,8 @@ abbrev read-images-below : ℕ → In 2 read-images-kinds.ps
 read-images-below t =
     and 2 read-images-kinds.ps (falls 2 read-images-kinds.ps _<_ μ-read-images t) read-images.Pre
 
--- src/lib.rt:61:13
-read-images-returns : (t : ℕ) → read-images-lts.Need-returns (
-  stack-of-reads.Asked,
-  stack-of-reads.Learnt,
-  find-rows-reads.Asked,
-  find-rows-reads.Learnt,
-  slice-bytes-reads.Asked,
-  slice-bytes-reads.Learnt,
-  read-images-below t,
-  read-images.Post,
-  copy-rows-reads.Asked,
-  copy-rows-reads.Learnt,
-) (read-images-at t) read-images.Post
-read-images-returns t c = ?
-
--- src/lib.rt:63:30
-read-images-stack-of-requires : (t : ℕ) → read-images-lts.Need-stack-of-requires (
-  stack-of-reads.Asked,
-  stack-of-reads.Learnt,
-  find-rows-reads.Asked,
-  find-rows-reads.Learnt,
-  slice-bytes-reads.Asked,
-  slice-bytes-reads.Learnt,
-  read-images-below t,
-  read-images.Post,
-  copy-rows-reads.Asked,
-  copy-rows-reads.Learnt,
-) (read-images-at t) read-images.Post
-read-images-stack-of-requires t c κs = ?
-
--- src/lib.rt:63:9
-read-images-returns-2 : (t : ℕ) → read-images-lts.Need-returns-2 (
-  stack-of-reads.Asked,
-  stack-of-reads.Learnt,
-  find-rows-reads.Asked,
-  find-rows-reads.Learnt,
-  slice-bytes-reads.Asked,
-  slice-bytes-reads.Learnt,
-  read-images-below t,
-  read-images.Post,
-  copy-rows-reads.Asked,
-  copy-rows-reads.Learnt,
-) (read-images-at t) read-images.Post
-read-images-returns-2 t c = ?
-
--- src/lib.rt:66:9
-read-images-returns-3 : (t : ℕ) → read-images-lts.Need-returns-3 (
-  stack-of-reads.Asked,
-  stack-of-reads.Learnt,
-  find-rows-reads.Asked,
-  find-rows-reads.Learnt,
-  slice-bytes-reads.Asked,
-  slice-bytes-reads.Learnt,
-  read-images-below t,
-  read-images.Post,
-  copy-rows-reads.Asked,
-  copy-rows-reads.Learnt,
-) (read-images-at t) read-images.Post
-read-images-returns-3 t c = ?
-
--- src/lib.rt:68:9
-read-images-find-rows-requires : (t : ℕ) → read-images-lts.Need-find-rows-requires (
-  stack-of-reads.Asked,
-  stack-of-reads.Learnt,
-  find-rows-reads.Asked,
-  find-rows-reads.Learnt,
-  slice-bytes-reads.Asked,
-  slice-bytes-reads.Learnt,
-  read-images-below t,
-  read-images.Post,
-  copy-rows-reads.Asked,
-  copy-rows-reads.Learnt,
-) (read-images-at t) read-images.Post
-read-images-find-rows-requires t c κs = ?
-
--- src/lib.rt:70:26
-read-images-enum-known-found : (t : ℕ) → read-images-lts.Need-enum-known-found (
-  stack-of-reads.Asked,
-  stack-of-reads.Learnt,
-  find-rows-reads.Asked,
-  find-rows-reads.Learnt,
-  slice-bytes-reads.Asked,
-  slice-bytes-reads.Learnt,
-  read-images-below t,
-  read-images.Post,
-  copy-rows-reads.Asked,
-  copy-rows-reads.Learnt,
-) (read-images-at t) read-images.Post
-read-images-enum-known-found t c = ?
-
--- src/lib.rt:71:23
-read-images-enum-known-found-2 : (t : ℕ) → read-images-lts.Need-enum-known-found-2 (
-  stack-of-reads.Asked,
-  stack-of-reads.Learnt,
-  find-rows-reads.Asked,
-  find-rows-reads.Learnt,
-  slice-bytes-reads.Asked,
-  slice-bytes-reads.Learnt,
-  read-images-below t,
-  read-images.Post,
-  copy-rows-reads.Asked,
-  copy-rows-reads.Learnt,
-) (read-images-at t) read-images.Post
-read-images-enum-known-found-2 t c = ?
-
--- src/lib.rt:72:17
-read-images-slice-bytes-requires : (t : ℕ) → read-images-lts.Need-slice-bytes-requires (
-  stack-of-reads.Asked,
-  stack-of-reads.Learnt,
-  find-rows-reads.Asked,
-  find-rows-reads.Learnt,
-  slice-bytes-reads.Asked,
-  slice-bytes-reads.Learnt,
-  read-images-below t,
-  read-images.Post,
-  copy-rows-reads.Asked,
-  copy-rows-reads.Learnt,
-) (read-images-at t) read-images.Post
-read-images-slice-bytes-requires t c κs = ?
-
--- src/lib.rt:73:41
-read-images-add-read-images : (t : ℕ) → read-images-lts.Need-add-read-images (
-  stack-of-reads.Asked,
-  stack-of-reads.Learnt,
-  find-rows-reads.Asked,
-  find-rows-reads.Learnt,
-  slice-bytes-reads.Asked,
-  slice-bytes-reads.Learnt,
-  read-images-below t,
-  read-images.Post,
-  copy-rows-reads.Asked,
-  copy-rows-reads.Learnt,
-) (read-images-at t) read-images.Post
-read-images-add-read-images t c = ?
-
--- src/lib.rt:73:56
-read-images-add-read-images-2 : (t : ℕ) → read-images-lts.Need-add-read-images-2 (
-  stack-of-reads.Asked,
-  stack-of-reads.Learnt,
-  find-rows-reads.Asked,
-  find-rows-reads.Learnt,
-  slice-bytes-reads.Asked,
-  slice-bytes-reads.Learnt,
-  read-images-below t,
-  read-images.Post,
-  copy-rows-reads.Asked,
-  copy-rows-reads.Learnt,
-) (read-images-at t) read-images.Post
-read-images-add-read-images-2 t c = ?
-
--- src/lib.rt:73:66
-read-images-add-read-images-3 : (t : ℕ) → read-images-lts.Need-add-read-images-3 (
-  stack-of-reads.Asked,
-  stack-of-reads.Learnt,
-  find-rows-reads.Asked,
-  find-rows-reads.Learnt,
-  slice-bytes-reads.Asked,
-  slice-bytes-reads.Learnt,
-  read-images-below t,
-  read-images.Post,
-  copy-rows-reads.Asked,
-  copy-rows-reads.Learnt,
-) (read-images-at t) read-images.Post
-read-images-add-read-images-3 t c = ?
-
--- src/lib.rt:73:17
-read-images-read-images-requires : (t : ℕ) → read-images-lts.Need-read-images-requires (
-  stack-of-reads.Asked,
-  stack-of-reads.Learnt,
-  find-rows-reads.Asked,
-  find-rows-reads.Learnt,
-  slice-bytes-reads.Asked,
-  slice-bytes-reads.Learnt,
-  read-images-below t,
-  read-images.Post,
-  copy-rows-reads.Asked,
-  copy-rows-reads.Learnt,
-) (read-images-at t) read-images.Post
-read-images-read-images-requires t c κs = ?
-
--- src/lib.rt:75:33
-read-images-enum-known-rest : (t : ℕ) → read-images-lts.Need-enum-known-rest (
-  stack-of-reads.Asked,
-  stack-of-reads.Learnt,
-  find-rows-reads.Asked,
-  find-rows-reads.Learnt,
-  slice-bytes-reads.Asked,
-  slice-bytes-reads.Learnt,
-  read-images-below t,
-  read-images.Post,
-  copy-rows-reads.Asked,
-  copy-rows-reads.Learnt,
-) (read-images-at t) read-images.Post
-read-images-enum-known-rest t c = ?
-
--- src/lib.rt:76:31
-read-images-enum-known-rest-2 : (t : ℕ) → read-images-lts.Need-enum-known-rest-2 (
-  stack-of-reads.Asked,
-  stack-of-reads.Learnt,
-  find-rows-reads.Asked,
-  find-rows-reads.Learnt,
-  slice-bytes-reads.Asked,
-  slice-bytes-reads.Learnt,
-  read-images-below t,
-  read-images.Post,
-  copy-rows-reads.Asked,
-  copy-rows-reads.Learnt,
-) (read-images-at t) read-images.Post
-read-images-enum-known-rest-2 t c = ?
-
--- src/lib.rt:77:21
-read-images-copy-rows-requires : (t : ℕ) → read-images-lts.Need-copy-rows-requires (
-  stack-of-reads.Asked,
-  stack-of-reads.Learnt,
-  find-rows-reads.Asked,
-  find-rows-reads.Learnt,
-  slice-bytes-reads.Asked,
-  slice-bytes-reads.Learnt,
-  read-images-below t,
-  read-images.Post,
-  copy-rows-reads.Asked,
-  copy-rows-reads.Learnt,
-) (read-images-at t) read-images.Post
-read-images-copy-rows-requires t c κs = ?
-
--- src/lib.rt:47:1
-read-images-returns-4 : (t : ℕ) → read-images-lts.Need-returns-4 (
-  stack-of-reads.Asked,
-  stack-of-reads.Learnt,
-  find-rows-reads.Asked,
-  find-rows-reads.Learnt,
-  slice-bytes-reads.Asked,
-  slice-bytes-reads.Learnt,
-  read-images-below t,
-  read-images.Post,
-  copy-rows-reads.Asked,
-  copy-rows-reads.Learnt,
-) (read-images-at t) read-images.Post
-read-images-returns-4 t c = ?
-
--- src/lib.rt:47:1
-read-images-same-length : (t : ℕ) → read-images-lts.Need-same-length (
-  stack-of-reads.Asked,
-  stack-of-reads.Learnt,
-  find-rows-reads.Asked,
-  find-rows-reads.Learnt,
-  slice-bytes-reads.Asked,
-  slice-bytes-reads.Learnt,
-  read-images-below t,
-  read-images.Post,
-  copy-rows-reads.Asked,
-  copy-rows-reads.Learnt,
-) (read-images-at t) read-images.Post
-read-images-same-length t c = ?
-
--- src/lib.rt:47:1
-read-images-returns-5 : (t : ℕ) → read-images-lts.Need-returns-5 (
-  stack-of-reads.Asked,
-  stack-of-reads.Learnt,
-  find-rows-reads.Asked,
-  find-rows-reads.Learnt,
-  slice-bytes-reads.Asked,
-  slice-bytes-reads.Learnt,
-  read-images-below t,
-  read-images.Post,
-  copy-rows-reads.Asked,
-  copy-rows-reads.Learnt,
-) (read-images-at t) read-images.Post
-read-images-returns-5 t c = ?
-
--- src/lib.rt:47:1
-read-images-same-length-2 : (t : ℕ) → read-images-lts.Need-same-length-2 (
-  stack-of-reads.Asked,
-  stack-of-reads.Learnt,
-  find-rows-reads.Asked,
-  find-rows-reads.Learnt,
-  slice-bytes-reads.Asked,
-  slice-bytes-reads.Learnt,
-  read-images-below t,
-  read-images.Post,
-  copy-rows-reads.Asked,
-  copy-rows-reads.Learnt,
-) (read-images-at t) read-images.Post
-read-images-same-length-2 t c = ?
-
--- src/lib.rt:47:1
-read-images-returns-6 : (t : ℕ) → read-images-lts.Need-returns-6 (
-  stack-of-reads.Asked,
-  stack-of-reads.Learnt,
-  find-rows-reads.Asked,
-  find-rows-reads.Learnt,
-  slice-bytes-reads.Asked,
-  slice-bytes-reads.Learnt,
-  read-images-below t,
-  read-images.Post,
-  copy-rows-reads.Asked,
-  copy-rows-reads.Learnt,
-) (read-images-at t) read-images.Post
-read-images-returns-6 t c = ?
-
-pub +read-images-spec : {M : Type 1} → statement M
-+read-images-spec = close μ-read-images λ t. read-images-lts.spec (
+abbrev calls : ℕ → read-images-lts.Claims
+calls t = (
   stack-of-reads.Asked,
   stack-of-reads.Learnt,
   find-rows-reads.Asked,
@@ -335,25 +39,34 @@ pub +read-images-spec : {M : Type 1} → statement M
   copy-rows-reads.Asked,
   copy-rows-reads.Learnt,
 )
+
+pub +read-images-spec : {M : Type 1} → statement M
++read-images-spec =
+    close μ-read-images λ t. read-images-lts.spec
+    (calls t)
     (read-images-at t)
     read-images.Post
-    (read-images-returns t)
-    (read-images-stack-of-requires t)
-    (read-images-returns-2 t)
-    (read-images-returns-3 t)
-    (read-images-find-rows-requires t)
-    (read-images-enum-known-found t)
-    (read-images-enum-known-found-2 t)
-    (read-images-slice-bytes-requires t)
-    (read-images-add-read-images t)
-    (read-images-add-read-images-2 t)
-    (read-images-add-read-images-3 t)
-    (read-images-read-images-requires t)
-    (read-images-enum-known-rest t)
-    (read-images-enum-known-rest-2 t)
-    (read-images-copy-rows-requires t)
-    (read-images-returns-4 t)
-    (read-images-same-length t)
-    (read-images-returns-5 t)
-    (read-images-same-length-2 t)
-    (read-images-returns-6 t)
+    (λ c. search part-short)
+    (λ c κs. search needs)
+    (λ c. search part-done)
+    (λ c. search part-full)
+    (λ c κs. search needs)
+    (λ c. search needs)
+    (λ c. search needs)
+    (λ c κs. search needs)
+    (λ c. let f = c .before .before in let k = f .before .before in let p = k .before .before .before .before .before .pre .1 in
+    omega (arith, rows-in (p .0) (p .1) (k .before .before .if1 .left) (k .before .if3 .left) (k .find-rows .ensures) (f .found2 .given .1) (c .slice-bytes .ensures)))
+    (λ c. let k = c .before .before .before .before .before in let p = k .before .before .before .before .before .pre .1 .1 in
+    omega (arith, p .few, p .small, k .before .if3 .left, c .before .slice-bytes .ensures .small))
+    (λ c. search needs)
+    (λ c κs. search (next-asked, next-before, arith))
+    (λ c. search needs)
+    (λ c. search needs)
+    (λ c κs. let g = c .before .before .before .before .before .before in let b = g .before .before in let f = b .before .before in let k = f .before .before in
+    let p = k .before .before .before .before .before .pre .1 in
+    (sides (p .0), copy-room (p .0) (p .1) (k .before .before .if1 .left) (k .before .if3 .left) (k .find-rows .ensures) (f .found2 .given .1) (b .slice-bytes .ensures) (g .read-images .ensures) (c .before .before .rest2 .given .1) (g .read-images .kept .1 .1 .0)))
+    (λ c. search part-not)
+    (λ c. search needs)
+    (λ c. search part-refused)
+    (λ c. search needs)
+    (λ c. search part-stack)
