@@ -1,6 +1,7 @@
 // The types that document 01's definitions, in `specs/`, and the code above them share. There is no code here.
 
-// A vector, a voxel or a place.
+// A vector, a voxel or a place. The panel's C interface has it as it is.
+#[repr(C)]
 pub struct Vector {
     pub x: i32,
     pub y: i32,
@@ -103,4 +104,24 @@ pub enum Reading {
 pub enum Writing {
     Written(usize),
     Unwritten(u32, usize),
+}
+
+// ---- the session's lines
+
+// What a part of a line says.
+pub enum Number {
+    Whole(i32),
+    NoNumber,
+}
+
+pub struct Question {
+    pub wedge: Wedge,
+    pub p: Vector,
+    pub frame: i32,
+    pub reach: i32,
+}
+
+pub enum Line {
+    Asks(Question),
+    OtherForm,
 }
