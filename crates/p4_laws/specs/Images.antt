@@ -6,13 +6,14 @@ use Prim.Native.Nat.{ℕ, zero, suc, _+_, _*_, _≤_, _<_}
 use native.Mathlib.Nat.{zero-mul, suc-mul}
 use native.Mathlib.Omega.{arith}
 use lib.ListN.{length, drop, length-append, length-drop}
-use lib.Dec.{eqb, leb}
+use lib.Seq.{drop-at}
+use lib.Dec.{eqb}
 use borrow.Author.Tests.{eq-eqb, ne-eqb, eqb-true, eqb-false}
 use Rattle.rules.specs.declared.Stack.{Stack}
 use Rattle.rules.specs.Solids.{rowBytes, sliceBytes}
 use Rattle.rules.specs.P4.{Judged, good, wrong, _>>=_, _>>_, judge, rows, imageAt, imagesAt, Header, headerAt, stands, magic, sizes, Contents, contents}
 use Rattle.p4_laws.specs.Judging.{made, passed, pass, fail}
-use Rattle.p4_laws.specs.Rows.{length-rows}
+use Rattle.p4_laws.specs.Rows.{length-rows, rows-twice, rows-more}
 use Rattle.p4_laws.specs.Headers.{HeaderIn, header-in, image-in}
 
 -- an image and those behind it
@@ -36,19 +37,45 @@ module _ (w h : ℕ) (s : List ℕ) (at : ℕ) where
     unfolding imagesAt
     images-more k = rw (ne-eqb at (length s) n, imagesAt)
 
--- ---- so many images, so many bytes
+-- ---- so many images, so many bytes, and their padding bits are zero
 pub record Counted (w h k : ℕ) (ends : Bool) (f : ℕ × List ℕ) : Type 0 where
   pub few : f .0 ≤ k
   pub some : ends ≡ false → 1 ≤ f .0
   pub bytes : length (f .1) ≡ f .0 * sliceBytes w h
+  pub clean : rows (f .0 * h) w (f .1) ≡ f .1
 
-pub rows-of : (w h : ℕ) (s : List ℕ) (at : ℕ) {i : ℕ} → 1 ≤ w → imageAt w h s at ≡ good i → length (rows h w (drop i s)) ≡ sliceBytes w h
-unfolding sliceBytes
-rows-of w h s at {i} some e = let n = image-in w h s at e in length-rows w some h (drop i s) (simp length-drop (omega arith))
+module _ (w h : ℕ) (wide : 1 ≤ w) (s : List ℕ) where
+  pub rows-of : (at : ℕ) {i : ℕ} → imageAt w h s at ≡ good i → length (rows h w (drop i s)) ≡ sliceBytes w h
+  unfolding sliceBytes
+  rows-of at {i} e = let n = image-in w h s at e in length-rows w wide h (drop i s) (simp length-drop (omega arith))
 
-module _ (w h : ℕ) (some : 1 ≤ w) (s : List ℕ) where
   none : (k : ℕ) {t : Bool} → t ≡ true → Counted w h k t (0, [])
-  none k e = record { few = omega arith; some = λ f. (let z : _≡_ {A = ℕ} 0 1 = cc in absurd (omega arith)); bytes = sym (zero-mul (sliceBytes w h)) }
+  unfolding rows
+  none k e = record {
+    few = omega arith;
+    some = λ f. (let z : _≡_ {A = ℕ} 0 1 = cc in absurd (omega arith));
+    bytes = sym (zero-mul (sliceBytes w h));
+    clean = ap (λ (x : ℕ). rows x w []) (zero-mul h);
+  }
+
+  one-more : (k at : ℕ) {i d : ℕ} {t u : Bool} {l : List ℕ} → imageAt w h s at ≡ good i → Counted w h k t (d, l) → Counted w h (suc k) u (suc d, rows h w (drop i s) ++ l)
+  unfolding sliceBytes
+  one-more k at {i} {d} {l = l} e C =
+      let x = rows h w (drop i s) in
+      let n = rows-of at e in
+      let m = image-in w h s at e in
+      let a = C .few in
+      let b = C .bytes in
+      let q = suc-mul d (sliceBytes w h) in
+      record {
+        few = omega arith;
+        some = λ _. omega arith;
+        bytes = simp length-append (omega arith);
+        clean =
+            rows-more h d w (x ++ l)
+            ∙ (λ j. rows-twice w wide h (drop i s) l (simp length-drop (omega arith)) j ++ rows (d * h) w (drop-at x l (h * rowBytes w) n j))
+            ∙ ap (λ (y : List ℕ). x ++ y) (C .clean);
+      }
 
   pub counted : (k at : ℕ) {f : ℕ × List ℕ} → imagesAt k w h s at ≡ good f → Counted w h k (eqb at (length s)) f
   unfolding imagesAt
@@ -65,36 +92,20 @@ module _ (w h : ℕ) (some : 1 ≤ w) (s : List ℕ) where
       by false t ih =
           let m = made _ (imageAt w h s at) (sym (images-more w h s at (eqb-false at (length s) t) k) ∙ e) in
           let r = made _ (imagesAt k w h s (m .0 + sliceBytes w h)) (m .2) in
-          let c = ih (m .0 + sliceBytes w h) (r .0) (r .1) in
           let g : (suc (r .0 .0), rows h w (drop (m .0) s) ++ r .0 .1) ≡ f = let x = r .2 in cc in
-          let a = c .few in
-          let b = c .bytes in
-          let l = rows-of w h s at some (m .1) in
-          let q = suc-mul (r .0 .0) (sliceBytes w h) in
-          subst (Counted w h (suc k) (eqb at (length s))) g
-          (record { few = omega arith; some = λ _. omega arith; bytes = simp length-append (omega arith) })
+          subst (Counted w h (suc k) (eqb at (length s))) g (one-more k at (m .1) (ih (m .0 + sliceBytes w h) (r .0) (r .1)))
 
 -- ---- a stack that is read
-pub record Sound (w h d : ℕ) (bytes : List ℕ) : Type 0 where
+pub record Sound (c : Contents) : Type 0 where
+  pub w : ℕ
+  pub h : ℕ
+  pub d : ℕ
+  pub stack-is : c .stack ≡ sizes w h d
   pub wide : (1 ≤ w) × (w ≤ 256)
   pub high : (1 ≤ h) × (h ≤ 256)
   pub deep : (1 ≤ d) × (d ≤ 256)
-  pub many : length bytes ≡ d * sliceBytes w h
-
--- its sizes and rows are those of its first header and its images
-pub record Parts (s : List ℕ) (c : Contents) : Type 0 where
-  pub header : Header
-  pub header-is : headerAt s 0 ≡ good header
-  pub images : ℕ × List ℕ
-  pub images-is : imagesAt 256 (header .width) (header .height) s 0 ≡ good images
-  pub is : c ≡ record { stack = sizes (header .width) (header .height) (images .0); bytes = images .1 }
-
-pub parts : (s : List ℕ) {c : Contents} → contents s ≡ good c → Parts s c
-unfolding contents
-parts s {c} e =
-    let a = made _ (headerAt s 0) e in
-    let b = made _ (imagesAt 256 (a .0 .width) (a .0 .height) s 0) (a .2) in
-    record { header = a .0; header-is = a .1; images = b .0; images-is = b .1; is = let x = b .2 in cc }
+  pub many : length (c .bytes) ≡ d * sliceBytes w h
+  pub clean : rows (d * h) w (c .bytes) ≡ c .bytes
 
 -- an empty input has no header, so a stack has an image
 not-empty : (s : List ℕ) {h : Header} → headerAt s 0 ≡ good h → eqb 0 (length s) ≡ false
@@ -102,14 +113,25 @@ unfolding headerAt stands _>>=_ judge
 not-empty [] {h} e = let z : _≡_ {A = ℕ} 0 1 = cc in absurd (omega arith)
 not-empty (b ∷ s) e = ne-eqb 0 (length (b ∷ s)) (λ f. omega arith)
 
-pub sound : (s : List ℕ) {c : Contents} (e : contents s ≡ good c) → let p = parts s e in Sound (p .header .width) (p .header .height) (p .images .0) (c .bytes)
+pub sound : (s : List ℕ) {c : Contents} → contents s ≡ good c → Sound c
+unfolding contents
 sound s {c} e =
-    let p = parts s e in
-    let i = header-in s 0 (p .header-is) in
-    let n = counted (p .header .width) (p .header .height) (i .wide .0) s 256 0 (p .images-is) in
-    record {
+    let a = made _ (headerAt s 0) e in
+    let w = a .0 .width in
+    let h = a .0 .height in
+    let b = made _ (imagesAt 256 w h s 0) (a .2) in
+    let g : record { stack = sizes w h (b .0 .0); bytes = b .0 .1 } ≡ c = let x = b .2 in cc in
+    let i = header-in s 0 (a .1) in
+    let n = counted w h (i .wide .0) s 256 0 (b .1) in
+    subst Sound g
+    (record {
+      w = w;
+      h = h;
+      d = b .0 .0;
+      stack-is = refl;
       wide = i .wide;
       high = i .high;
-      deep = (n .some (not-empty s (p .header-is)), n .few);
-      many = ap (λ (x : Contents). length (x .bytes)) (p .is) ∙ n .bytes;
-    }
+      deep = (n .some (not-empty s (a .1)), n .few);
+      many = n .bytes;
+      clean = n .clean;
+    })

@@ -4,3 +4,8 @@ pub mod Rows
 pub mod Scans
 pub mod Headers
 pub mod Images
+pub mod Plain
+pub mod ReadBack
+pub mod Looks
+pub mod Trips
+pub mod RoundTrips

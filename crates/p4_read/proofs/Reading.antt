@@ -14,7 +14,8 @@ use Rattle.rules.specs.declared.Reading.the-variants.{Read, Unread}
 use Rattle.rules.specs.Solids.{sliceBytes, stackBytes}
 use Rattle.rules.specs.P4.{Judged, good, wrong, _>>=_, judge, rows, imageAt, imagesAt, Contents, contents, reading, readAnswer, stored, sizes, ReadPromise}
 use Rattle.p4_laws.specs.Judging.{on, off, pass, fail}
-use Rattle.p4_laws.specs.Stores.{sets-append, sets-swap}
+use Rattle.text.specs.Puts.{sets-append}
+use Rattle.p4_laws.specs.Stores.{sets-swap}
 use Rattle.p4_laws.specs.Headers.{header-in, image-in}
 use Rattle.p4_laws.specs.Images.{followed, images-end, images-full, images-more, rows-of, counted}
 use Rattle.p4_rows.specs.Copies.{SliceBytes, Room, Sides}
@@ -98,7 +99,7 @@ module _ {s : List ℕ} {w h z at o : ℕ} (A : Asked s at w h) (B : Before o z 
         storing {out = out} (filled {d} {bytes} a l b x) q g =
             let y = deeper d in
             let u : z + 1 + d ≡ z + suc d = omega arith in
-            let v = rows-of w h s at (A .wide .0) found in
+            let v = rows-of w h (A .wide .0) s at found in
             filled (more ∙ on _ a) (omega arith) (sym q ∙ b ∙ ap (λ (D : ℕ). Read (sizes w h D)) u)
             (g
             ∙ ap (λ (t : List ℕ). sets t o (rows h w (drop i s))) x
