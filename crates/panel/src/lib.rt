@@ -1,0 +1,97 @@
+// The panel's C interface (include/ulgenzhir.h): thin over the core, each answer flattened by a definition of `specs/Flat.antt`.
+ghost use mathlib.Core.Path.{_≡_};
+ghost use Rattle.rules.specs.Vectors.{origin};
+ghost use Rattle.panel.specs.Flat.{flatPick, flatDisplay};
+use rules::Display;
+use rules::Pick;
+use rules::Stack;
+use rules::Vector;
+use rules::Wedge;
+
+// `ulgenzhir_point` is `rules::Vector`.
+#[repr(C)]
+pub struct FlatPick {
+    pub number: u32,
+    pub place: Vector,
+    pub steps: u32,
+    pub looks: u32,
+    pub normal: Vector,
+    pub m0: Vector,
+    pub m1: Vector,
+    pub m2: Vector,
+    pub apex: Vector,
+}
+
+fn zero() -> Vector
+    ensures { λ r. ⌜ r ≡ origin ⌝ }
+{
+    Vector { x: 0, y: 0, z: 0 }
+}
+
+fn flatten_pick(answer: Pick) -> FlatPick
+    ensures { λ r. ⌜ r ≡ flatPick answer ⌝ }
+{
+    let none = zero();
+    match answer {
+        Pick::Accepted(a) => {
+            let normal = a.normal;
+            let triangle = a.triangle;
+            let m0 = triangle.m0;
+            let m1 = triangle.m1;
+            let m2 = triangle.m2;
+            let apex = a.apex;
+            FlatPick {
+                number: 0,
+                place: none,
+                steps: a.steps,
+                looks: a.looks,
+                normal: normal,
+                m0: m0,
+                m1: m1,
+                m2: m2,
+                apex: apex,
+            }
+        }
+        Pick::Refused(r) => {
+            let place = r.place;
+            FlatPick {
+                number: r.number,
+                place: place,
+                steps: r.steps,
+                looks: r.looks,
+                normal: none,
+                m0: none,
+                m1: none,
+                m2: none,
+                apex: none,
+            }
+        }
+    }
+}
+
+#[repr(C)]
+pub struct FlatDisplay {
+    pub number: u32,
+    pub x: f32,
+    pub y: f32,
+    pub z: f32,
+}
+
+fn flatten_display(answer: Display) -> FlatDisplay
+    ensures { λ r. ⌜ r ≡ flatDisplay answer ⌝ }
+{
+    match answer {
+        Display::Lit(l) => FlatDisplay {
+            number: 0,
+            x: l.x,
+            y: l.y,
+            z: l.z,
+        },
+        Display::Unlit(n) => FlatDisplay {
+            number: n,
+            x: 0.0,
+            y: 0.0,
+            z: 0.0,
+        },
+    }
+}
