@@ -93,3 +93,35 @@ pub enum Display {
     Lit(Light),
     Unlit(u32),
 }
+
+// ---- the answers of P4's reader and writer; a refusal has its number and the number returned
+
+pub enum Reading {
+    Read(Stack),
+    Unread(u32, usize),
+}
+
+pub enum Writing {
+    Written(usize),
+    Unwritten(u32, usize),
+}
+
+// ---- the session's lines
+
+// What a part of a line says.
+pub enum Number {
+    Whole(i32),
+    NoNumber,
+}
+
+pub struct Question {
+    pub wedge: Wedge,
+    pub p: Vector,
+    pub frame: i32,
+    pub reach: i32,
+}
+
+pub enum Line {
+    Asks(Question),
+    OtherForm,
+}

@@ -1,0 +1,1 @@
+// Laws of the integers, all in specs/: no code.
