@@ -2,7 +2,7 @@
 use mathlib.Core.Path.{_≡_}
 use mathlib.Core.List.{List, []}
 use Prim.Native.Nat.{ℕ}
-use lib.IntN.{ℤ, pos}
+use lib.IntN.{ℤ, pos, negsuc}
 use lib.Ieee.{Float, fin}
 use mathlib.Core.Bool.{false}
 use Rattle.rules.specs.declared.Vector.{Vector}
@@ -10,8 +10,15 @@ use Rattle.rules.specs.declared.Pick.{Pick}
 use Rattle.rules.specs.declared.Pick.the-variants.{Accepted, Refused}
 use Rattle.rules.specs.declared.Display.{Display}
 use Rattle.rules.specs.declared.Display.the-variants.{Lit, Unlit}
+use Rattle.rules.specs.declared.Stack.{Stack}
+use Rattle.rules.specs.declared.Reading.{Reading}
+use Rattle.rules.specs.declared.Reading.the-variants.{Read, Unread}
+use Rattle.rules.specs.declared.Writing.{Writing}
+use Rattle.rules.specs.declared.Writing.the-variants.{Written, Unwritten}
 use Rattle.rules.specs.Vectors.{origin}
 use Rattle.panel.specs.declared.FlatPick.{FlatPick}
+use Rattle.panel.specs.declared.FlatReading.{FlatReading}
+use Rattle.panel.specs.declared.FlatWriting.{FlatWriting}
 use Rattle.panel.specs.declared.FlatDisplay.{FlatDisplay}
 
 -- number 0: accepted, place 0 0 0. Refused: normal, m0, m1, m2, apex all zero
@@ -47,3 +54,18 @@ plusZero = fin false 0 (pos 0)
 abbrev pub flatDisplay : Display → FlatDisplay
 flatDisplay (Lit l) = record { number = 0; x = l .x; y = l .y; z = l .z }
 flatDisplay (Unlit n) = record { number = n; x = plusZero; y = plusZero; z = plusZero }
+
+-- no size that is read is below zero
+abbrev pub unsigned : ℤ → ℕ
+unsigned (pos n) = n
+unsigned (negsuc n) = 0
+
+-- number 0: sizes set, value 0. Refused: value is the number returned, sizes 0
+abbrev pub flatReading : Reading → FlatReading
+flatReading (Read k) = record { number = 0; value = 0; width = unsigned (k .width); height = unsigned (k .height); depth = unsigned (k .depth) }
+flatReading (Unread number value) = record { number = number; value = value; width = 0; height = 0; depth = 0 }
+
+-- number 0: value is the bytes written; 27: bytes needed; 3: 0
+abbrev pub flatWriting : Writing → FlatWriting
+flatWriting (Written bytes) = record { number = 0; value = bytes }
+flatWriting (Unwritten number value) = record { number = number; value = value }

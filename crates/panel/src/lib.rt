@@ -1,12 +1,13 @@
 // The panel's C interface (include/ulgenzhir.h): thin over the core, each answer flattened by a definition of `specs/Flat.antt`.
 ghost use mathlib.Core.Path.{_≡_};
-ghost use Rattle.rules.specs.Vectors.{origin};
-ghost use Rattle.panel.specs.Flat.{flatPick, flatDisplay};
+ghost use Rattle.panel.specs.Flat.{flatPick, flatDisplay, flatReading, flatWriting, unsigned};
 use rules::Display;
 use rules::Pick;
+use rules::Reading;
 use rules::Stack;
 use rules::Vector;
 use rules::Wedge;
+use rules::Writing;
 
 // `ulgenzhir_point` is `rules::Vector`.
 #[repr(C)]
@@ -22,16 +23,10 @@ pub struct FlatPick {
     pub apex: Vector,
 }
 
-fn zero() -> Vector
-    ensures { λ r. ⌜ r ≡ origin ⌝ }
-{
-    Vector { x: 0, y: 0, z: 0 }
-}
-
 fn flatten_pick(answer: Pick) -> FlatPick
     ensures { λ r. ⌜ r ≡ flatPick answer ⌝ }
 {
-    let none = zero();
+    let none = Vector { x: 0, y: 0, z: 0 };
     match answer {
         Pick::Accepted(a) => {
             let normal = a.normal;
@@ -92,6 +87,63 @@ fn flatten_display(answer: Display) -> FlatDisplay
             x: 0.0,
             y: 0.0,
             z: 0.0,
+        },
+    }
+}
+
+#[repr(C)]
+pub struct FlatReading {
+    pub number: u32,
+    pub value: u64,
+    pub width: u32,
+    pub height: u32,
+    pub depth: u32,
+}
+
+#[repr(C)]
+pub struct FlatWriting {
+    pub number: u32,
+    pub value: u64,
+}
+
+fn flatten_writing(answer: Writing) -> FlatWriting
+    ensures { λ r. ⌜ r ≡ flatWriting answer ⌝ }
+{
+    match answer {
+        Writing::Written(n) => FlatWriting {
+            number: 0,
+            value: n as u64,
+        },
+        Writing::Unwritten(number, n) => FlatWriting {
+            number: number,
+            value: n as u64,
+        },
+    }
+}
+
+fn unsigned_size(n: i32) -> u32
+    ensures { λ r. ⌜ r ≡ unsigned n ⌝ }
+{
+    if 0 <= n { n as u32 } else { 0 }
+}
+
+fn flatten_reading(answer: Reading) -> FlatReading
+    ensures { λ r. ⌜ r ≡ flatReading answer ⌝ }
+{
+    match answer {
+        Reading::Read(k) => FlatReading {
+            number: 0,
+            value: 0,
+            width: unsigned_size(k.width),
+            height: unsigned_size(k.height),
+            depth: unsigned_size(k.depth),
+        },
+        Reading::Unread(number, n) => FlatReading {
+            number: number,
+            value: n as u64,
+            width: 0,
+            height: 0,
+            depth: 0,
         },
     }
 }
