@@ -12,7 +12,7 @@ use mir.Facts.{toZ-ofZ}
 use Rattle.integers.specs.Reify.{byring, sides, by-eq}
 use Rattle.integers.specs.Order.{parts, linear, atom, goal, fact, *ℤ-mono}
 use Rattle.integers.specs.Sizes.{Within, sizes, within-linear}
-use Rattle.integers.specs.Machine.{machine, typed, tested, tests, fits, value, within, test, told, le-yes, eq-bits}
+use Rattle.integers.specs.Machine.{machine, typed, tests, fits, value, within, told, le-yes}
 
 -- ---- identities
 difference-of-squares : (a b : ℤ) → (a +ℤ b) *ℤ (a -ℤ b) ≡ a *ℤ a -ℤ b *ℤ b
@@ -92,7 +92,7 @@ larger x y h k e = let a = toZ-ofZ h in let b = toZ-ofZ k in omega (arith, parts
 
 -- a test on computed numbers
 nearer : (x y : ℤ) → Within 2046 x → Within 2046 y → leZ (toZ w32 (ofZ w32 (toZ w32 (ofZ w32 x) *ℤ toZ w32 (ofZ w32 x)))) (toZ w32 (ofZ w32 y)) ≡ true → (x *ℤ x) ≤ℤ y
-nearer x y h k e = le-yes _ _ (told e (search tested depth 30 fits 5000) tt)
+nearer x y h k e = le-yes _ _ (told e (search machine depth 30 fits 5000) tt)
 
-nearer-answer : (x y : ℤ) → Within 2046 x → Within 2046 y → leZ (toZ w32 (ofZ w32 (pos 0 -ℤ toZ w32 (ofZ w32 x)))) (toZ w32 (ofZ w32 y)) ≡ leZ (pos 0 -ℤ x) y
-nearer-answer x y h k = test (search tested depth 30 fits 5000) tt
+nearer-answer : (x y : ℤ) → Within 2046 x → Within 2046 y → leZ (toZ w32 (ofZ w32 (pos 0 -ℤ toZ w32 (ofZ w32 x)))) (toZ w32 (ofZ w32 y)) ≡ leZ (negℤ x) y
+nearer-answer x y h k = value (search machine depth 30 fits 5000) tt
