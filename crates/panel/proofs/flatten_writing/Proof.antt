@@ -5,12 +5,6 @@ use Rattle.panel.specs.Flat.{flatWriting}
 use Rattle.panel.proofs.flatten_writing.Statement.{statement}
 use Rattle.panel.proofs.flatten_writing.Tie as tie
 
-enum-known-answer : tie.Need-enum-known-answer
-enum-known-answer c = search needs
-
-enum-known-answer-2 : tie.Need-enum-known-answer-2
-enum-known-answer-2 c = search needs
-
 returns : tie.Need-returns
 returns c = ap flatWriting (sym (c .before .answer .given .1))
 
@@ -18,4 +12,4 @@ returns-2 : tie.Need-returns-2
 returns-2 c = ap flatWriting (sym (c .before .answer2 .given .1))
 
 pub flatten-writing-spec : {M : Type 1} → statement M
-flatten-writing-spec = tie.close (tie.spec enum-known-answer enum-known-answer-2 returns returns-2)
+flatten-writing-spec = tie.close (tie.spec (λ c. search needs) (λ c. search needs) returns returns-2)
