@@ -2,7 +2,7 @@
 use mathlib.Core.Path.{_≡_}
 use mathlib.Core.List.{List, []}
 use Prim.Native.Nat.{ℕ}
-use lib.IntN.{ℤ, pos, negsuc}
+use lib.IntN.{ℤ, pos, natAbs}
 use lib.Ieee.{Float, fin}
 use mathlib.Core.Bool.{false}
 use Rattle.rules.specs.declared.Vector.{Vector}
@@ -55,14 +55,9 @@ abbrev pub flatDisplay : Display → FlatDisplay
 flatDisplay (Lit l) = record { number = 0; x = l .x; y = l .y; z = l .z }
 flatDisplay (Unlit n) = record { number = n; x = plusZero; y = plusZero; z = plusZero }
 
--- no size that is read is below zero
-abbrev pub unsigned : ℤ → ℕ
-unsigned (pos n) = n
-unsigned (negsuc n) = 0
-
 -- number 0: sizes set, value 0. Refused: value is the number returned, sizes 0
 abbrev pub flatReading : Reading → FlatReading
-flatReading (Read k) = record { number = 0; value = 0; width = unsigned (k .width); height = unsigned (k .height); depth = unsigned (k .depth) }
+flatReading (Read k) = record { number = 0; value = 0; width = natAbs (k .width); height = natAbs (k .height); depth = natAbs (k .depth) }
 flatReading (Unread number value) = record { number = number; value = value; width = 0; height = 0; depth = 0 }
 
 -- number 0: value is the bytes written; 27: bytes needed; 3: 0

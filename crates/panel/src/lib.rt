@@ -1,6 +1,6 @@
 // The panel's C interface (include/ulgenzhir.h): thin over the core, each answer flattened by a definition of `specs/Flat.antt`.
 ghost use mathlib.Core.Path.{_≡_};
-ghost use Rattle.panel.specs.Flat.{flatPick, flatDisplay, flatReading, flatWriting, unsigned};
+ghost use Rattle.panel.specs.Flat.{flatPick, flatDisplay, flatReading, flatWriting};
 use rules::Display;
 use rules::Pick;
 use rules::Reading;
@@ -121,12 +121,6 @@ fn flatten_writing(answer: Writing) -> FlatWriting
     }
 }
 
-fn unsigned_size(n: i32) -> u32
-    ensures { λ r. ⌜ r ≡ unsigned n ⌝ }
-{
-    if 0 <= n { n as u32 } else { 0 }
-}
-
 fn flatten_reading(answer: Reading) -> FlatReading
     ensures { λ r. ⌜ r ≡ flatReading answer ⌝ }
 {
@@ -134,9 +128,9 @@ fn flatten_reading(answer: Reading) -> FlatReading
         Reading::Read(k) => FlatReading {
             number: 0,
             value: 0,
-            width: unsigned_size(k.width),
-            height: unsigned_size(k.height),
-            depth: unsigned_size(k.depth),
+            width: size::size_of(k.width),
+            height: size::size_of(k.height),
+            depth: size::size_of(k.depth),
         },
         Reading::Unread(number, n) => FlatReading {
             number: number,

@@ -1,4 +1,4 @@
--- `flatten_reading` writes out the two cases of `flatReading`, each size by `unsigned_size`.
+-- `flatten_reading` writes out the two cases of `flatReading`, each size by `size_of`.
 use mathlib.Core.Path.{sym, ap}
 use mir.Syntax.{w32}
 use Rattle.integers.specs.Machine.{back}
@@ -11,9 +11,9 @@ returns : tie.Need-returns
 returns c =
     let told = c .before .before .before .before .before .struct-told .given in
     rw (
-      c .before .before .before .before .unsigned-size .ensures,
-      c .before .before .unsigned-size2 .ensures,
-      c .unsigned-size3 .ensures,
+      c .before .before .before .before .size-of .ensures,
+      c .before .before .size-of2 .ensures,
+      c .size-of3 .ensures,
       back w32 _ (told .0 .1),
       back w32 _ (told .1 .0 .1),
       back w32 _ (told .1 .1 .0 .1),
