@@ -1,8 +1,8 @@
 -- The box of a solid: a look is outside exactly outside the box, and the box of a permitted solid lies in a cube of side 1024, a stack's of side 256.
-use mathlib.Core.Path.{_≡_, refl, sym}
+use mathlib.Core.Path.{_≡_, refl}
 use mathlib.Core.Bool.{Bool, true, false, not, _&&_}
 use mathlib.Core.List.{List}
-use Prim.Native.Nat.{ℕ, suc, _+_, _≤_}
+use Prim.Native.Nat.{ℕ, suc}
 use native.Mathlib.Omega.{arith}
 use lib.Dec.{T, leb, lit≤}
 use lib.IntN.{ℤ, pos}
@@ -13,8 +13,7 @@ use Rattle.rules.specs.declared.Vector.{Vector}
 use Rattle.rules.specs.declared.Stack.{Stack}
 use Rattle.rules.specs.declared.Solid.{Solid}
 use Rattle.rules.specs.declared.Solid.the-variants.{Wedge as IsWedge, Stack as IsStack}
-use Rattle.rules.specs.declared.Look.{Look}
-use Rattle.rules.specs.declared.Look.the-variants.{Filled, Empty, Outside}
+use Rattle.rules.specs.declared.Look.the-variants.{Outside}
 use Rattle.rules.specs.declared.Triangle.{Triangle}
 use Rattle.rules.specs.declared.Pair.{Pair}
 use Rattle.rules.specs.declared.Choice.{Choice}

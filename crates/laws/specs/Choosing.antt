@@ -1,14 +1,14 @@
 -- The choice. Strictly inside is a smaller g, so the chosen pair is the first falling pair of least g: one exists whenever a pair falls,
 -- and a round that keeps only the best pair so far, replaced where the next is inside its sphere, ends with the same pair.
 use mathlib.Core.Path.{_≡_, refl, ap, subst, _∙_}
-use mathlib.Core.Logic.{_⊎_, inl, inr}
-use mathlib.Core.Bool.{Bool, true, false, not, _||_}
+use mathlib.Core.Logic.{inl, inr}
+use mathlib.Core.Bool.{Bool, true, false, _||_}
 use mathlib.Core.List.{List, [], _∷_}
 use Prim.Native.Nat.{ℕ}
 use native.Mathlib.Omega.{arith}
 use lib.Dec.{T}
-use lib.IntN.{ℤ, pos, _+ℤ_, _-ℤ_, _*ℤ_}
-use lib.Signed.{_≤ℤ_, _<ℤ_, ltZ, ltZ-yes, ltZ-no}
+use lib.IntN.{pos}
+use lib.Signed.{_≤ℤ_, _<ℤ_, ltZ-yes, ltZ-no}
 use Rattle.integers.specs.Order.{parts, linear, atom, goal, fact}
 use Rattle.rules.specs.declared.Triangle.{Triangle}
 use Rattle.rules.specs.declared.Pair.{Pair}

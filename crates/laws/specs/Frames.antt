@@ -1,13 +1,13 @@
 -- Frames: laying in by signs. Every fact of the walk is proved in frame coordinates; these lemmas carry it into the box and back.
 use mathlib.Core.Path.{_≡_, refl, sym, ap, ap₂, _∙_}
 use mathlib.Core.Logic.{_⊎_, inl, inr}
-use mathlib.Core.List.{List, [], _∷_}
+use mathlib.Core.List.{[], _∷_}
 use Prim.Native.Nat.{ℕ, zero, suc, _+_, _/_, _%_}
 use native.Mathlib.Omega.{arith}
 use lib.IntN.{ℤ, pos, negsuc, natAbs, _+ℤ_, _-ℤ_, _*ℤ_}
 use lib.Signed.{_≤ℤ_}
-use Rattle.integers.specs.Reify.{byring, sides, by-eq}
-use Rattle.integers.specs.Order.{parts, linear, atom, goal, fact}
+use Rattle.integers.specs.Reify.{byring, sides}
+use Rattle.integers.specs.Order.{parts, linear, atom, fact}
 use Rattle.integers.specs.Sizes.{product-size}
 use Rattle.rules.specs.declared.Vector.{Vector}
 use Rattle.rules.specs.Vectors.{_⊕_, _⊖_, scale, dot, lay, size}

@@ -6,6 +6,12 @@ pub mod Sphere
 pub mod Choosing
 pub mod Says
 pub mod Looks
+pub mod Powers
+pub mod Walks
 pub mod Frames
 pub mod Ranges
 pub mod Boxes
+pub mod Picks
+pub mod Answers
+pub mod Stacks
+pub mod Theorems

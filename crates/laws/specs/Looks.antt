@@ -4,7 +4,7 @@ use mathlib.Core.Path.{_≡_, refl}
 use mathlib.Core.Logic.{_⊎_, inl, inr}
 use mathlib.Core.Bool.{Bool, true, false, not}
 use mathlib.Core.List.{List, [], _∷_}
-use Prim.Native.Nat.{ℕ, zero, suc, _+_, _*_, _≤_}
+use Prim.Native.Nat.{ℕ, _*_}
 use native.Mathlib.Nat as NatL
 use native.Mathlib.Omega.{arith}
 use lib.Dec.{T}
@@ -17,7 +17,7 @@ use Rattle.rules.specs.declared.Triangle.{Triangle}
 use Rattle.rules.specs.declared.Pair.{Pair}
 use Rattle.rules.specs.declared.Choice.{Choice}
 use Rattle.rules.specs.Vectors.{_⊕_, scale, minus, lay}
-use Rattle.rules.specs.Asked.{Asked, answered, _>>=_}
+use Rattle.rules.specs.Asked.{answered}
 use Rattle.rules.specs.Walk.{Stop, stop, seen, lookAt, falls, axes, falling, round, way, pairs, keep, choice}
 use Rattle.laws.specs.Tests.{Each}
 use Rattle.laws.specs.Says.{Says, says-answer, says-weaker, says-fewer, says-bind, says-map, says-asked, says-ensure}

@@ -1,26 +1,25 @@
 -- Ranges, on any look whose box lies in a cube. A round that was answered looked at power 1 of every way inside the box, so each way is within the cube's side,
 -- and so is each triangle vector after a step. Looked at both ways from q, it is within half the side.
 use mathlib.Core.Path.{_≡_, refl, subst}
-use mathlib.Core.Logic.{_⊎_, inl, inr}
+use mathlib.Core.Logic.{inl, inr}
 use mathlib.Core.Bool.{Bool, true, false}
 use mathlib.Core.List.{List, [], _∷_}
-use Prim.Native.Nat.{ℕ, zero, suc, _+_, _*_, _≤_}
+use Prim.Native.Nat.{ℕ, zero, suc}
 use native.Mathlib.Omega.{arith}
 use lib.Dec.{T}
-use lib.IntN.{ℤ, pos, natAbs, _+ℤ_, _-ℤ_, _*ℤ_}
+use lib.IntN.{ℤ, pos, _+ℤ_, _-ℤ_, _*ℤ_}
 use lib.Signed.{_≤ℤ_}
 use Rattle.integers.specs.Reify.{byring, sides}
 use Rattle.integers.specs.Order.{parts, linear, atom, goal, fact}
-use Rattle.integers.specs.Sizes.{Within, sizes, within-linear, within-is, product-size}
+use Rattle.integers.specs.Sizes.{Within, sizes, within-linear}
 use Rattle.rules.specs.declared.Vector.{Vector}
 use Rattle.rules.specs.declared.Look.{Look}
-use Rattle.rules.specs.declared.Look.the-variants.{Filled, Empty, Outside}
 use Rattle.rules.specs.declared.Triangle.{Triangle}
 use Rattle.rules.specs.declared.Pair.{Pair}
 use Rattle.rules.specs.declared.Pair.the-variants.{P01, P02, P10, P12, P20, P21}
 use Rattle.rules.specs.declared.Choice.{Choice}
 use Rattle.rules.specs.Vectors.{_⊕_, _⊖_, scale, lay}
-use Rattle.rules.specs.Asked.{Asked, answered}
+use Rattle.rules.specs.Asked.{answered}
 use Rattle.rules.specs.Walk.{powersFrom, powers, pairs, first, second, way, step, round}
 use Rattle.rules.specs.Pick.{isInside}
 use Rattle.laws.specs.Tests.{Each}

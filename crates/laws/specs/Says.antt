@@ -1,8 +1,8 @@
 -- What a question says: Q of its answer, F of its refusal, and that it takes at most N looks. One rule for each way to build a question,
 -- so that a theorem about the walk follows the walk's own text.
-use mathlib.Core.Path.{_≡_, refl, subst}
+use mathlib.Core.Path.{_≡_, subst}
 use mathlib.Core.Bool.{Bool, true, false, not}
-use mathlib.Core.List.{List, [], _∷_, _++_}
+use mathlib.Core.List.{List, []}
 use Prim.Native.Nat.{ℕ, _+_, _≤_}
 use native.Mathlib.Omega.{arith}
 use lib.Dec.{T}

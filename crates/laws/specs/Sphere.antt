@@ -1,7 +1,7 @@
 -- The determinant of the choice, for a triangle of determinant 1: D(x, y) = 2 (g(y) - g(x)) with g(k, l) = m_l·(m_l - m_k).
 -- One identity in fifteen variables splits D into a part of x and a part of y; both parts are linear in what is known of m0, m1 and m2.
-use mathlib.Core.Path.{_≡_, refl, sym, ap, ap₂, _∙_}
-use mathlib.Core.List.{List, [], _∷_}
+use mathlib.Core.Path.{_≡_}
+use mathlib.Core.List.{[], _∷_}
 use lib.IntN.{ℤ, pos, _+ℤ_, _-ℤ_, _*ℤ_}
 use Rattle.integers.specs.Reify.{byring, sides, by-eq}
 use Rattle.rules.specs.declared.Vector.{Vector}
@@ -12,7 +12,7 @@ use Rattle.rules.specs.Walk.{first, second, way, normal, determinant}
 use Rattle.laws.specs.Parts.{of2, dot-sum, dot-difference}
 use Rattle.laws.specs.Triples.{All, all-first, all-second, detOf, of9, crosses, normal-dot}
 
-unfoldable pub g : Triangle → Pair → ℤ
+abbrev pub g : Triangle → Pair → ℤ
 g m x = dot (second m x) (way m x)
 
 -- the squares of m0, m1, m2, spread by the cross products
@@ -53,7 +53,7 @@ unfolding dot _⊖_
 twice d a b = byring (d ∷ of2 a b) (search sides depth 40 fits 30000) tt
 
 power-way : (m : Triangle) (x : Pair) → power m (way m x) ≡ pos 2 *ℤ detOf m *ℤ g m x
-unfolding power g
+unfolding power
 power-way m x = rw (spread-difference m (second m x) (first m x), all-first (spread-at m) x, all-second (spread-at m) x) (twice (detOf m) (first m x) (second m x))
 
 pub determinant-is : (m : Triangle) (x y : Pair) → detOf m ≡ pos 1 → determinant m x y ≡ pos 2 *ℤ (g m y -ℤ g m x)

@@ -1,23 +1,23 @@
 -- Triples of whole vectors. A step is a row operation, so the determinant stays 1. The cross products b0 = m1×m2, b1 = m2×m0, b2 = m0×m1 are the
 -- inverse's columns: v = Σ (b_k·v) m_k and n·m_k = det for their sum n, the normal. A step (k, l) adds b_k to b_l and changes no other, so
 -- no part of any becomes negative, and each part of the normal is at least 1.
-use mathlib.Core.Path.{_≡_, refl, sym, ap, ap₂, _∙_}
+use mathlib.Core.Path.{_≡_, refl, sym, _∙_}
 use mathlib.Core.Logic.{_⊎_, inl, inr}
 use mathlib.Core.List.{List, [], _∷_}
 use Prim.Native.Nat.{ℕ}
 use native.Mathlib.Omega.{arith}
-use lib.IntN.{ℤ, pos, negℤ, _+ℤ_, _-ℤ_, _*ℤ_}
+use lib.IntN.{ℤ, pos, _+ℤ_, _*ℤ_}
 use lib.Signed.{_≤ℤ_, _<ℤ_}
-use Rattle.integers.specs.Reify.{byring, sides, by-eq}
+use Rattle.integers.specs.Reify.{byring, sides}
 use Rattle.integers.specs.Order.{parts, linear, atom, goal, fact}
 use Rattle.rules.specs.declared.Vector.{Vector}
 use Rattle.rules.specs.declared.Triangle.{Triangle}
 use Rattle.rules.specs.declared.Pair.{Pair}
 use Rattle.rules.specs.declared.Pair.the-variants.{P01, P02, P10, P12, P20, P21}
 use Rattle.rules.specs.Vectors.{vector, _⊕_, _⊖_, scale, dot, cross, det}
-use Rattle.rules.specs.Walk.{triangle, units, first, second, way, with, step, normal}
+use Rattle.rules.specs.Walk.{triangle, units, first, second, with, step, normal}
 use Rattle.laws.specs.Tests.{compared}
-use Rattle.laws.specs.Parts.{Parts, vector-eq, NonNegative, Positive, of2, of3}
+use Rattle.laws.specs.Parts.{vector-eq, NonNegative, Positive, of2, of3}
 
 -- ---- P of each triangle vector, and so of m_k, of m_l and of a triangle with a new m_k
 pub record All (P : Vector → Type 0) (m : Triangle) : Type 0 where

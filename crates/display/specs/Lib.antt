@@ -1,0 +1,6 @@
+-- `Theorems` is the front door.
+pub mod Parts
+pub mod Roots
+pub mod Floats
+pub mod Permitted
+pub mod Theorems
