@@ -1,5 +1,6 @@
 // The panel's C interface (include/ulgenzhir.h): thin over the core, each answer flattened by a definition of `specs/Flat.antt`.
 ghost use mathlib.Core.Path.{_≡_};
+ghost use Rattle.panel.specs.Promises.{Displayed};
 ghost use Rattle.panel.specs.Flat.{flatPick, flatDisplay, flatReading, flatWriting};
 use rules::Display;
 use rules::Pick;
@@ -140,4 +141,11 @@ fn flatten_reading(answer: Reading) -> FlatReading
             depth: 0,
         },
     }
+}
+
+#[no_mangle]
+pub extern "C" fn ulgenzhir_display(nx: i32, ny: i32, nz: i32) -> FlatDisplay
+    ensures { λ r. ⌜ Displayed nx ny nz r ⌝ }
+{
+    flatten_display(display::display_normal(nx, ny, nz))
 }
