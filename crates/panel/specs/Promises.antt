@@ -1,10 +1,30 @@
 -- The promises of the panel's five functions: each answer is the core's definition, flattened; a lent buffer holds what the core's promise says.
 -- These are definitions: nothing here is proved.
 use mathlib.Core.Path.{_≡_}
+use mathlib.Core.List.{List, []}
+use Prim.Native.Nat.{ℕ}
 use lib.IntN.{ℤ}
+use Rattle.rules.specs.declared.Vector.{Vector}
+use Rattle.rules.specs.declared.Wedge.{Wedge}
+use Rattle.rules.specs.declared.Stack.{Stack}
+use Rattle.rules.specs.declared.Solid.the-variants.{Wedge as IsWedge, Stack as IsStack}
+use Rattle.rules.specs.Pick.{pickOf}
 use Rattle.rules.specs.Display.{display}
+use Rattle.panel.specs.declared.FlatPick.{FlatPick}
 use Rattle.panel.specs.declared.FlatDisplay.{FlatDisplay}
-use Rattle.panel.specs.Flat.{flatDisplay}
+use Rattle.panel.specs.Flat.{flatPick, flatDisplay}
+
+abbrev pub wedge : ℤ → ℤ → ℤ → ℤ → Wedge
+wedge a b c h = record { a = a; b = b; c = c; h = h }
+
+abbrev pub stack : ℤ → ℤ → ℤ → Stack
+stack width height depth = record { width = width; height = height; depth = depth }
+
+pub record PickedWedge (w : Wedge) (p : Vector) (frame reach : ℤ) (r : FlatPick) : Type 0 where
+  pub is : r ≡ flatPick (pickOf (IsWedge w) [] p frame reach)
+
+pub record PickedStack (k : Stack) (bytes : List ℕ) (p : Vector) (frame reach : ℤ) (r : FlatPick) : Type 0 where
+  pub is : r ≡ flatPick (pickOf (IsStack k) bytes p frame reach)
 
 pub record Displayed (nx ny nz : ℤ) (r : FlatDisplay) : Type 0 where
   pub is : r ≡ flatDisplay (display nx ny nz)

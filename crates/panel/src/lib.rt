@@ -1,6 +1,7 @@
 // The panel's C interface (include/ulgenzhir.h): thin over the core, each answer flattened by a definition of `specs/Flat.antt`.
 ghost use mathlib.Core.Path.{_≡_};
-ghost use Rattle.panel.specs.Promises.{Displayed};
+ghost use Rattle.panel.specs.Promises.{wedge, stack, PickedWedge, PickedStack, Displayed};
+ghost use Rattle.rules.specs.Vectors.{vector};
 ghost use Rattle.panel.specs.Flat.{flatPick, flatDisplay, flatReading, flatWriting};
 use rules::Display;
 use rules::Pick;
@@ -148,4 +149,59 @@ pub extern "C" fn ulgenzhir_display(nx: i32, ny: i32, nz: i32) -> FlatDisplay
     ensures { λ r. ⌜ Displayed nx ny nz r ⌝ }
 {
     flatten_display(display::display_normal(nx, ny, nz))
+}
+
+#[no_mangle]
+pub extern "C" fn ulgenzhir_pick_wedge(
+    a: i32,
+    b: i32,
+    c: i32,
+    h: i32,
+    px: i32,
+    py: i32,
+    pz: i32,
+    frame: i32,
+    reach: i32,
+) -> FlatPick
+    ensures { λ r. ⌜ PickedWedge (wedge a b c h) (vector px py pz) frame reach r ⌝ }
+{
+    let w = Wedge {
+        a: a,
+        b: b,
+        c: c,
+        h: h,
+    };
+    let p = Vector {
+        x: px,
+        y: py,
+        z: pz,
+    };
+    flatten_pick(pick::pick_wedge(w, p, frame, reach))
+}
+
+#[no_mangle]
+pub extern "C" fn ulgenzhir_pick_stack(
+    width: i32,
+    height: i32,
+    depth: i32,
+    bytes: &[u8],
+    px: i32,
+    py: i32,
+    pz: i32,
+    frame: i32,
+    reach: i32,
+) -> FlatPick
+    ensures { λ r. ⌜ PickedStack (stack width height depth) (now (bytes .entry)) (vector px py pz) frame reach r ⌝ }
+{
+    let k = Stack {
+        width: width,
+        height: height,
+        depth: depth,
+    };
+    let p = Vector {
+        x: px,
+        y: py,
+        z: pz,
+    };
+    flatten_pick(pick::pick_stack(k, bytes, p, frame, reach))
 }
