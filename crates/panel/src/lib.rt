@@ -1,6 +1,6 @@
 // The panel's C interface (include/ulgenzhir.h): thin over the core, each answer flattened by a definition of `specs/Flat.antt`.
 ghost use mathlib.Core.Path.{_≡_};
-ghost use Rattle.panel.specs.Promises.{wedge, stack, PickedWedge, PickedStack, Displayed};
+ghost use Rattle.panel.specs.Promises.{wedge, stack, PickedWedge, PickedStack, ReadP4, WroteP4, Displayed};
 ghost use Rattle.rules.specs.Vectors.{vector};
 ghost use Rattle.panel.specs.Flat.{flatPick, flatDisplay, flatReading, flatWriting};
 use rules::Display;
@@ -12,6 +12,7 @@ use rules::Wedge;
 use rules::Writing;
 
 // `ulgenzhir_point` is `rules::Vector`.
+
 #[repr(C)]
 pub struct FlatPick {
     pub number: u32,
@@ -24,6 +25,31 @@ pub struct FlatPick {
     pub m2: Vector,
     pub apex: Vector,
 }
+
+#[repr(C)]
+pub struct FlatReading {
+    pub number: u32,
+    pub value: u64,
+    pub width: u32,
+    pub height: u32,
+    pub depth: u32,
+}
+
+#[repr(C)]
+pub struct FlatWriting {
+    pub number: u32,
+    pub value: u64,
+}
+
+#[repr(C)]
+pub struct FlatDisplay {
+    pub number: u32,
+    pub x: f32,
+    pub y: f32,
+    pub z: f32,
+}
+
+// ---- answers as plain numbers
 
 fn flatten_pick(answer: Pick) -> FlatPick
     ensures { λ r. ⌜ r ≡ flatPick answer ⌝ }
@@ -66,63 +92,6 @@ fn flatten_pick(answer: Pick) -> FlatPick
     }
 }
 
-#[repr(C)]
-pub struct FlatDisplay {
-    pub number: u32,
-    pub x: f32,
-    pub y: f32,
-    pub z: f32,
-}
-
-fn flatten_display(answer: Display) -> FlatDisplay
-    ensures { λ r. ⌜ r ≡ flatDisplay answer ⌝ }
-{
-    match answer {
-        Display::Lit(l) => FlatDisplay {
-            number: 0,
-            x: l.x,
-            y: l.y,
-            z: l.z,
-        },
-        Display::Unlit(n) => FlatDisplay {
-            number: n,
-            x: 0.0,
-            y: 0.0,
-            z: 0.0,
-        },
-    }
-}
-
-#[repr(C)]
-pub struct FlatReading {
-    pub number: u32,
-    pub value: u64,
-    pub width: u32,
-    pub height: u32,
-    pub depth: u32,
-}
-
-#[repr(C)]
-pub struct FlatWriting {
-    pub number: u32,
-    pub value: u64,
-}
-
-fn flatten_writing(answer: Writing) -> FlatWriting
-    ensures { λ r. ⌜ r ≡ flatWriting answer ⌝ }
-{
-    match answer {
-        Writing::Written(n) => FlatWriting {
-            number: 0,
-            value: n as u64,
-        },
-        Writing::Unwritten(number, n) => FlatWriting {
-            number: number,
-            value: n as u64,
-        },
-    }
-}
-
 fn flatten_reading(answer: Reading) -> FlatReading
     ensures { λ r. ⌜ r ≡ flatReading answer ⌝ }
 {
@@ -144,12 +113,41 @@ fn flatten_reading(answer: Reading) -> FlatReading
     }
 }
 
-#[no_mangle]
-pub extern "C" fn ulgenzhir_display(nx: i32, ny: i32, nz: i32) -> FlatDisplay
-    ensures { λ r. ⌜ Displayed nx ny nz r ⌝ }
+fn flatten_writing(answer: Writing) -> FlatWriting
+    ensures { λ r. ⌜ r ≡ flatWriting answer ⌝ }
 {
-    flatten_display(display::display_normal(nx, ny, nz))
+    match answer {
+        Writing::Written(n) => FlatWriting {
+            number: 0,
+            value: n as u64,
+        },
+        Writing::Unwritten(number, n) => FlatWriting {
+            number: number,
+            value: n as u64,
+        },
+    }
 }
+
+fn flatten_display(answer: Display) -> FlatDisplay
+    ensures { λ r. ⌜ r ≡ flatDisplay answer ⌝ }
+{
+    match answer {
+        Display::Lit(l) => FlatDisplay {
+            number: 0,
+            x: l.x,
+            y: l.y,
+            z: l.z,
+        },
+        Display::Unlit(n) => FlatDisplay {
+            number: n,
+            x: 0.0,
+            y: 0.0,
+            z: 0.0,
+        },
+    }
+}
+
+// ---- the interface
 
 #[no_mangle]
 pub extern "C" fn ulgenzhir_pick_wedge(
@@ -204,4 +202,36 @@ pub extern "C" fn ulgenzhir_pick_stack(
         z: pz,
     };
     flatten_pick(pick::pick_stack(k, bytes, p, frame, reach))
+}
+
+#[no_mangle]
+pub extern "C" fn ulgenzhir_read_p4(src: &[u8], rows: &mut [u8]) -> FlatReading
+    ensures { λ r. ⌜ ReadP4 (now (src .entry)) (now (rows .entry)) (now (rows .exit)) r ⌝ }
+{
+    flatten_reading(p4_read::read(src, rows))
+}
+
+#[no_mangle]
+pub extern "C" fn ulgenzhir_write_p4(
+    width: i32,
+    height: i32,
+    depth: i32,
+    bytes: &[u8],
+    out: &mut [u8],
+) -> FlatWriting
+    ensures { λ r. ⌜ WroteP4 (stack width height depth) (now (bytes .entry)) (now (out .entry)) (now (out .exit)) r ⌝ }
+{
+    let k = Stack {
+        width: width,
+        height: height,
+        depth: depth,
+    };
+    flatten_writing(p4_write::write(k, bytes, out))
+}
+
+#[no_mangle]
+pub extern "C" fn ulgenzhir_display(nx: i32, ny: i32, nz: i32) -> FlatDisplay
+    ensures { λ r. ⌜ Displayed nx ny nz r ⌝ }
+{
+    flatten_display(display::display_normal(nx, ny, nz))
 }
