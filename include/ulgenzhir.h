@@ -1,6 +1,6 @@
 /*
  * Ulgenzhir: the proved core of an inspection panel, for C and C++ hosts.
- * Link target/staticlib/libpanel.a (x86-64 Linux); nothing else is needed.
+ * Link target/staticlib/libpanel.a (x86-64 Linux); it needs the C library alone.
  *
  * What a call does. It answers for every value of its numbers and for every
  * content of its buffers. It keeps nothing between calls, allocates nothing,
