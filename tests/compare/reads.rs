@@ -1,55 +1,9 @@
 //! The reader, over whole, decorated and damaged files.
 
+use crate::call::{Call, Lent};
 use crate::chance::Chance;
-use crate::tally::Tally;
-use crate::{Compared, flat, library};
 use second::p4;
 use second::solid::Sizes;
-
-/// A lent buffer in the middle of a larger one, so that a write beside it shows.
-pub struct Lent {
-    pub whole: Vec<u8>,
-    from: usize,
-    len: usize,
-}
-
-impl Lent {
-    pub fn new(chance: &mut Chance, len: usize) -> Lent {
-        let from = chance.len_to(9);
-        let pattern = chance.byte();
-        let whole = (0..from + len + 16).map(|i| pattern.wrapping_add(37 * i as u8)).collect();
-        Lent { whole, from, len }
-    }
-
-    pub fn part(&mut self) -> &mut [u8] {
-        &mut self.whole[self.from..self.from + self.len]
-    }
-}
-
-impl Clone for Lent {
-    fn clone(&self) -> Lent {
-        Lent { whole: self.whole.clone(), ..*self }
-    }
-}
-
-/// The input is a part of a longer text, so that a reader that runs on meets something.
-pub fn compare_text(text: &[u8], len: usize, lent: Lent, tally: &mut Tally) -> Compared {
-    let (mut ours, mut theirs) = (lent.clone(), lent);
-    let input = &text[..len];
-    let second = flat::read(p4::read(input, ours.part()));
-    let library = library::read_p4(input, theirs.part());
-    tally.call(second.number);
-    if second == library && ours.whole == theirs.whole {
-        return Ok(());
-    }
-    let at = ours.whole.iter().zip(&theirs.whole).position(|(a, b)| a != b);
-    let told = match at {
-        Some(at) => format!("buffers differ at {} of {}", at as i64 - ours.from as i64, ours.len),
-        None => format!("lent buffer of {}", ours.len),
-    };
-    let shown = input[..len.min(300)].escape_ascii();
-    Err(format!("read {len} bytes: {shown}\n{told}\nsecond  {second:?}\nlibrary {library:?}"))
-}
 
 /// A buffer that is too short, exact, longer or of any length for this input.
 fn lent_for(chance: &mut Chance, input: &[u8]) -> Lent {
@@ -63,7 +17,7 @@ fn lent_for(chance: &mut Chance, input: &[u8]) -> Lent {
         0 => few,
         1 => needed.saturating_sub(1),
         2 => 0,
-        3..6 => needed,
+        3..=5 => needed,
         6 => needed + 1,
         _ => behind,
     };
@@ -95,7 +49,7 @@ fn gap(chance: &mut Chance, plain: bool) -> Vec<u8> {
 
 fn digits(chance: &mut Chance, value: i64, plain: bool) -> Vec<u8> {
     let zeros = match chance.below(if plain { 1 } else { 12 }) {
-        1..4 => chance.len_to(4),
+        1..=3 => chance.len_to(4),
         4 => 30,
         _ => 0,
     };
@@ -148,7 +102,7 @@ fn size(chance: &mut Chance) -> i64 {
     match chance.below(30) {
         0 => 256,
         1 => chance.between(1, 256),
-        2..5 => chance.one_of(&[1, 7, 8, 9, 15, 16, 17]),
+        2..=4 => chance.one_of(&[1, 7, 8, 9, 15, 16, 17]),
         _ => chance.between(1, 20),
     }
 }
@@ -157,7 +111,7 @@ fn file(chance: &mut Chance) -> Vec<u8> {
     let (width, height) = (size(chance), size(chance));
     let images = match chance.below(10) {
         0 => chance.between(3, 9),
-        1..4 => 2,
+        1..=3 => 2,
         _ => 1,
     };
     let plain = chance.percent(25);
@@ -196,7 +150,7 @@ fn soup(chance: &mut Chance) -> Vec<u8> {
     text
 }
 
-pub fn compare(chance: &mut Chance, _: u64, tally: &mut Tally) -> Compared {
+pub fn any(chance: &mut Chance, _: u64) -> Vec<Call> {
     let mut text = if chance.percent(20) { soup(chance) } else { file(chance) };
     if chance.percent(40) {
         for _ in 0..chance.between(1, 3) {
@@ -206,11 +160,15 @@ pub fn compare(chance: &mut Chance, _: u64, tally: &mut Tally) -> Compared {
     let len = text.len();
     text.extend(b"0 1\nP4 1 1\n\xff\xff");
     let lent = lent_for(chance, &text[..len]);
-    compare_text(&text, len, lent, tally)
+    vec![Call::Read { text, len, lent }]
+}
+
+fn read_of(chance: &mut Chance, text: &[u8], len: usize) -> Call {
+    Call::Read { text: text.to_vec(), len, lent: lent_for(chance, &text[..len]) }
 }
 
 /// One decorated file cut at every byte, then each byte of its header exchanged for every telling one.
-pub fn compare_headers(chance: &mut Chance, _: u64, tally: &mut Tally) -> Compared {
+pub fn headers(chance: &mut Chance, _: u64) -> Vec<Call> {
     let (width, height) = (chance.between(1, 12), chance.between(1, 3));
     let slice = Sizes { width, height, depth: 1 }.slice_bytes();
     let mut text = header(chance, width, height, false);
@@ -218,23 +176,19 @@ pub fn compare_headers(chance: &mut Chance, _: u64, tally: &mut Tally) -> Compar
     text.extend(header(chance, width, height, false));
     let headers = text.len();
     text.extend(chance.bytes(slice));
-    for len in 0..=text.len() {
-        let lent = lent_for(chance, &text[..len]);
-        compare_text(&text, len, lent, tally)?;
-    }
+    let mut calls: Vec<Call> = (0..=text.len()).map(|len| read_of(chance, &text, len)).collect();
     for at in 0..headers {
         for byte in TELLING {
-            let kept = std::mem::replace(&mut text[at], byte);
-            let lent = lent_for(chance, &text);
-            compare_text(&text, text.len(), lent, tally)?;
-            text[at] = kept;
+            let mut damaged = text.clone();
+            damaged[at] = byte;
+            calls.push(read_of(chance, &damaged, damaged.len()));
         }
     }
-    Ok(())
+    calls
 }
 
 /// 1 to 257 images and what may stand after them.
-pub fn compare_many(chance: &mut Chance, index: u64, tally: &mut Tally) -> Compared {
+pub fn many(chance: &mut Chance, index: u64) -> Vec<Call> {
     let images = if index < 258 { index } else { chance.between(250, 258) as u64 };
     let (width, height) = (chance.between(1, 9), chance.between(1, 2));
     let slice = Sizes { width, height, depth: 1 }.slice_bytes();
@@ -248,6 +202,5 @@ pub fn compare_many(chance: &mut Chance, index: u64, tally: &mut Tally) -> Compa
     if chance.percent(30) {
         text.push(chance.one_of(&TELLING));
     }
-    let lent = lent_for(chance, &text);
-    compare_text(&text, text.len(), lent, tally)
+    vec![read_of(chance, &text, text.len())]
 }

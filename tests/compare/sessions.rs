@@ -1,17 +1,17 @@
 //! The program `wedge`, fed through a pipe in pieces or from a file.
 
-use crate::Compared;
+use crate::bridge::program;
 use crate::chance::Chance;
 use crate::session_texts::{overlong, text};
 use crate::tally::Tally;
-use second::session::{MOST_BYTES, session};
+use second::listed::SESSIONS;
+use second::session::{session, MOST_BYTES};
 use std::fs::File;
 use std::io::{ErrorKind, Read, Seek, Write};
 use std::process::{Child, ChildStdin, Command, Stdio};
 
-fn program() -> Command {
-    let beside = concat!(env!("CARGO_MANIFEST_DIR"), "/../target/bin/wedge");
-    Command::new(std::env::var("ULGENZHIR_WEDGE").unwrap_or(beside.to_string()))
+fn wedge() -> Command {
+    program("ULGENZHIR_WEDGE", "target/bin/wedge")
 }
 
 fn started(command: &mut Command) -> Result<Child, String> {
@@ -45,7 +45,7 @@ fn feed(mut pipe: ChildStdin, input: &[u8], piece: usize) -> std::io::Result<()>
 }
 
 fn through_pipe(input: &[u8], piece: usize) -> Result<Vec<u8>, String> {
-    let mut child = started(program().stdin(Stdio::piped()))?;
+    let mut child = started(wedge().stdin(Stdio::piped()))?;
     let pipe = child.stdin.take().expect("piped");
     std::thread::scope(|scope| {
         let fed = scope.spawn(move || feed(pipe, input, piece));
@@ -61,7 +61,7 @@ fn from_file(input: &[u8]) -> Result<Vec<u8>, String> {
     let told = |error: std::io::Error| format!("{}: {error}", path.display());
     std::fs::write(&path, input).map_err(told)?;
     let mut file = File::open(&path).map_err(told)?;
-    let child = started(program().stdin(file.try_clone().map_err(told)?))?;
+    let child = started(wedge().stdin(file.try_clone().map_err(told)?))?;
     let output = ended(child)?;
     let read = file.stream_position().map_err(told)?;
     std::fs::remove_file(&path).map_err(told)?;
@@ -72,7 +72,7 @@ fn from_file(input: &[u8]) -> Result<Vec<u8>, String> {
     Ok(output)
 }
 
-pub fn printed(chance: &mut Chance, input: &[u8]) -> Result<Vec<u8>, String> {
+fn printed(chance: &mut Chance, input: &[u8]) -> Result<Vec<u8>, String> {
     match chance.below(3) {
         0 => from_file(input),
         1 => {
@@ -83,7 +83,7 @@ pub fn printed(chance: &mut Chance, input: &[u8]) -> Result<Vec<u8>, String> {
     }
 }
 
-pub fn compare_text(chance: &mut Chance, input: &[u8], tally: &mut Tally) -> Compared {
+pub fn compare(chance: &mut Chance, input: &[u8], tally: &mut Tally) -> Result<(), String> {
     let second = session(input);
     let library = printed(chance, input)?;
     tally.calls += 1;
@@ -109,35 +109,27 @@ fn first_difference(input: &[u8], second: &[u8], library: &[u8]) -> String {
     format!("session line {at}: {input}\nsecond  {second}\nlibrary {library}")
 }
 
-/// The committed sessions, held to their committed outputs too.
-pub fn compare_files(chance: &mut Chance, tally: &mut Tally) -> Compared {
-    let folder = concat!(env!("CARGO_MANIFEST_DIR"), "/sessions");
-    for (stdin, stdout) in [("stdin", "stdout"), ("overlong.stdin", "overlong.stdout")] {
-        let bytes = |name: &str| std::fs::read(format!("{folder}/{name}")).expect("a session file");
-        let input = bytes(stdin);
-        compare_text(chance, &input, tally)?;
-        if session(&input) != bytes(stdout) {
-            return Err(format!("{folder}/{stdout} is not what the second program prints"));
-        }
+/// The listed sessions, then the committed ones.
+pub fn listed(_: &mut Chance, index: u64) -> Vec<u8> {
+    let file = |name: &str| std::fs::read(format!("tests/sessions/{name}")).expect("a session");
+    match index.checked_sub(SESSIONS.len() as u64) {
+        None => SESSIONS[index as usize].0.to_vec(),
+        Some(0) => file("stdin"),
+        Some(_) => file("overlong.stdin"),
     }
-    Ok(())
 }
 
-pub fn compare(chance: &mut Chance, index: u64, tally: &mut Tally) -> Compared {
-    let input = match index % 15 {
+pub const LISTED: u64 = SESSIONS.len() as u64 + 2;
+
+pub fn any(chance: &mut Chance, index: u64) -> Vec<u8> {
+    let lines = chance.below(600);
+    match index % 15 {
         0 => overlong(chance),
         1 => {
             let len = chance.len_to(66_000);
             (0..len).map(|_| chance.one_of(b"11 2-0\n 8\r\0")).collect()
         }
-        2 => {
-            let lines = chance.below(4);
-            text(chance, lines)
-        }
-        _ => {
-            let lines = chance.below(600);
-            text(chance, lines)
-        }
-    };
-    compare_text(chance, &input, tally)
+        2 => text(chance, lines % 4),
+        _ => text(chance, lines),
+    }
 }

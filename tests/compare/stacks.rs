@@ -1,38 +1,13 @@
 //! Picks on stacks.
 
+use crate::call::{Call, OnStack};
 use crate::chance::Chance;
-use crate::tally::Tally;
 use crate::wedge_lines::{frame, level, reach, sizes_of_normal};
-use crate::{Compared, flat, library};
 use second::pick::pick;
-use second::point::{Point, dot, lay, minus, plus, signs};
-use second::solid::{Sizes, Solid, Stack};
+use second::point::{dot, lay, minus, plus, signs, Point};
+use second::solid::{Sizes, Solid};
 use std::cell::RefCell;
 use std::collections::HashMap;
-
-/// One call of the stack's pick.
-pub struct Asked {
-    pub sizes: [i32; 3],
-    pub bytes: Vec<u8>,
-    pub start: [i32; 3],
-    pub frame: i32,
-    pub reach: i32,
-}
-
-pub fn compare_asked(asked: &Asked, tally: &mut Tally) -> Compared {
-    let Asked { sizes, bytes, start, frame, reach } = asked;
-    let [width, height, depth] = sizes.map(i64::from);
-    let stack = Stack { sizes: Sizes { width, height, depth }, bytes };
-    let second =
-        flat::pick(pick(&stack, start.map(i64::from), i64::from(*frame), i64::from(*reach)));
-    let library = library::pick_stack(*sizes, bytes, *start, *frame, *reach);
-    tally.call(second.number);
-    if second == library {
-        return Ok(());
-    }
-    let told = format!("stack {sizes:?} of {} bytes, {start:?} {frame} {reach}", bytes.len());
-    Err(format!("{told}\nsecond  {second:?}\nlibrary {library:?}"))
-}
 
 fn side(chance: &mut Chance, most: i64) -> i64 {
     match chance.below(8) {
@@ -46,9 +21,9 @@ fn side(chance: &mut Chance, most: i64) -> i64 {
 fn sides(chance: &mut Chance) -> Point {
     let most = match chance.below(400) {
         0 => 256,
-        1..4 => 130,
-        4..40 => 70,
-        40..200 => 36,
+        1..=3 => 130,
+        4..=39 => 70,
+        40..=199 => 36,
         _ => 20,
     };
     [0, 1, 2].map(|_| side(chance, most))
@@ -153,7 +128,7 @@ fn block(chance: &mut Chance, sides: Point, start: Point, signs: Point, reach: i
         0 => Block::of(chance, sides, |_| true),
         1 => Block::of(chance, sides, |_| false),
         2 | 3 => noise(chance, sides, start, signs),
-        4..7 => few(chance, sides, start, signs),
+        4..=6 => few(chance, sides, start, signs),
         _ => slope(chance, sides, start, signs, reach),
     }
 }
@@ -162,7 +137,7 @@ const ENDS: [i32; 12] =
     [i32::MIN, i32::MIN + 1, -1, 0, 1, 255, 256, 257, 1 << 16, 1 << 24, i32::MAX - 1, i32::MAX];
 
 /// One number of the call made extreme, or the bytes cut.
-fn damage(chance: &mut Chance, asked: &mut Asked) {
+fn damage(chance: &mut Chance, asked: &mut OnStack) {
     let axis = chance.below(3) as usize;
     match chance.below(6) {
         0 | 1 => asked.sizes[axis] = chance.one_of(&ENDS),
@@ -176,7 +151,7 @@ fn damage(chance: &mut Chance, asked: &mut Asked) {
     }
 }
 
-pub fn asked(chance: &mut Chance) -> Asked {
+pub fn any(chance: &mut Chance, _: u64) -> Vec<Call> {
     let sides = sides(chance);
     let start = start(chance, sides);
     let (frame, reach) = (frame(chance), reach(chance));
@@ -186,22 +161,21 @@ pub fn asked(chance: &mut Chance) -> Asked {
         let behind = chance.len_to(40);
         bytes.extend(chance.bytes(behind));
     }
-    let mut asked = Asked {
+    let mut asked = on_stack(sides, bytes, start, frame, reach);
+    if chance.percent(8) {
+        damage(chance, &mut asked);
+    }
+    vec![Call::Stack(asked)]
+}
+
+pub fn on_stack(sides: Point, bytes: Vec<u8>, start: Point, frame: i64, reach: i64) -> OnStack {
+    OnStack {
         sizes: sides.map(|side| side as i32),
         bytes,
         start: start.map(|part| part as i32),
         frame: frame as i32,
         reach: reach as i32,
-    };
-    if chance.percent(8) {
-        damage(chance, &mut asked);
     }
-    asked
-}
-
-pub fn compare(chance: &mut Chance, _: u64, tally: &mut Tally) -> Compared {
-    let asked = asked(chance);
-    compare_asked(&asked, tally)
 }
 
 /// A solid whose voxels are decided by chance only when the second program looks at them, so that
@@ -230,14 +204,15 @@ impl Solid for Unforeseen {
         *decided.entry(point).or_insert_with(|| match looked_at {
             0 => true,
             1 => false,
-            2..5 => self.chance.borrow_mut().percent(90),
+            2..=4 => self.chance.borrow_mut().percent(90),
             _ => self.chance.borrow_mut().percent(self.density),
         })
     }
 }
 
-pub fn compare_unforeseen(chance: &mut Chance, _: u64, tally: &mut Tally) -> Compared {
-    let side = chance.one_of(&[24, 48, 64, 100, 256]);
+pub fn unforeseen(chance: &mut Chance, _: u64) -> Vec<Call> {
+    let large = if chance.percent(15) { 256 } else { 100 };
+    let side = chance.one_of(&[24, 48, 64, large]);
     let sides = [0, 1, 2].map(|_| side - chance.between(0, 7));
     let start = sides.map(|side| side / 2 + chance.between(-2, 2));
     let (frame, most) = (chance.between(0, 7), chance.one_of(&[6, 8, 16, 32, 64, 128]));
@@ -255,12 +230,5 @@ pub fn compare_unforeseen(chance: &mut Chance, _: u64, tally: &mut Tally) -> Com
     for (&point, &filled) in solid.decided.borrow().iter() {
         set(&mut bytes, sizes, point, filled);
     }
-    let asked = Asked {
-        sizes: sides.map(|side| side as i32),
-        bytes,
-        start: start.map(|part| part as i32),
-        frame: frame as i32,
-        reach: reach as i32,
-    };
-    compare_asked(&asked, tally)
+    vec![Call::Stack(on_stack(sides, bytes, start, frame, reach))]
 }

@@ -25,7 +25,7 @@ impl Tally {
     }
 
     pub fn met(&self, label: &str) -> bool {
-        self.answers.get(label).is_some_and(|&count| count > 0)
+        self.answers.get(label).map_or(false, |&count| count > 0)
     }
 }
 

@@ -1,30 +1,15 @@
 //! The writer.
 
+use crate::call::{Call, Lent};
 use crate::chance::Chance;
-use crate::reads::Lent;
-use crate::tally::Tally;
-use crate::{Compared, flat, library};
 use second::p4;
 use second::solid::Sizes;
-
-pub fn compare_one(sizes: [i32; 3], bytes: &[u8], lent: Lent, tally: &mut Tally) -> Compared {
-    let (mut ours, mut theirs) = (lent.clone(), lent);
-    let [width, height, depth] = sizes.map(i64::from);
-    let second = flat::written(p4::write(Sizes { width, height, depth }, bytes, ours.part()));
-    let library = library::write_p4(sizes, bytes, theirs.part());
-    tally.call(second.number);
-    if second == library && ours.whole == theirs.whole {
-        return Ok(());
-    }
-    let lens = format!("{} bytes, lent buffer of {}", bytes.len(), ours.part().len());
-    Err(format!("write {sizes:?}, {lens}\nsecond  {second:?}\nlibrary {library:?}"))
-}
 
 fn size(chance: &mut Chance) -> i64 {
     match chance.below(40) {
         0 => 256,
         1 => chance.between(1, 256),
-        2..6 => chance.one_of(&[1, 7, 8, 9, 10, 15, 16, 17]),
+        2..=5 => chance.one_of(&[1, 7, 8, 9, 10, 15, 16, 17]),
         6 => chance.one_of(&[99, 100, 101]),
         _ => chance.between(1, 12),
     }
@@ -56,7 +41,7 @@ fn sizes(chance: &mut Chance) -> Sizes {
     Sizes { width, height, depth }
 }
 
-pub fn compare(chance: &mut Chance, _: u64, tally: &mut Tally) -> Compared {
+pub fn any(chance: &mut Chance, _: u64) -> Vec<Call> {
     let sizes = sizes(chance);
     let needed = match p4::write(sizes, &vec![0; sizes.stack_bytes()], &mut []) {
         Err(p4::Refusal { number: 27, value }) => value as usize,
@@ -67,7 +52,7 @@ pub fn compare(chance: &mut Chance, _: u64, tally: &mut Tally) -> Compared {
     let bytes = match chance.below(12) {
         0 => chance.bytes(enough - 1),
         1 => chance.bytes(few),
-        2..5 => chance.bytes(enough + 19),
+        2..=4 => chance.bytes(enough + 19),
         _ => chance.bytes(enough),
     };
     let short = chance.len_to(needed);
@@ -75,7 +60,7 @@ pub fn compare(chance: &mut Chance, _: u64, tally: &mut Tally) -> Compared {
         0 => short,
         1 => needed - 1,
         2 => 0,
-        3..6 => needed,
+        3..=5 => needed,
         6 => needed + 1,
         _ => needed + 29,
     };
@@ -84,5 +69,5 @@ pub fn compare(chance: &mut Chance, _: u64, tally: &mut Tally) -> Compared {
         asked[chance.below(3) as usize] = chance.one_of(&ENDS);
     }
     let lent = Lent::new(chance, len);
-    compare_one(asked.map(|size| size as i32), &bytes, lent, tally)
+    vec![Call::Write { sizes: asked.map(|size| size as i32), bytes, lent }]
 }

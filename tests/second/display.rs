@@ -1,6 +1,6 @@
 //! The display normal.
 
-use crate::point::{ORIGIN, Point, dot};
+use crate::point::{dot, Point, ORIGIN};
 
 pub const ALL_ZERO_OR_TOO_LARGE: u32 = 30;
 

@@ -2,6 +2,7 @@
 //! It shares no code and no table with the library, takes wide numbers and does no
 //! more than the page says, so that a difference between the two is worth a look.
 
+pub mod checks;
 pub mod display;
 pub mod listed;
 pub mod p4;

@@ -82,11 +82,11 @@ impl<'a> Reader<'a> {
     /// Digits, judged once the white space after them was seen.
     fn number(&mut self) -> Result<i64, Refusal> {
         let first = self.at;
-        while self.next().is_some_and(|byte| byte.is_ascii_digit()) {
+        while self.next().map_or(false, |byte| byte.is_ascii_digit()) {
             self.at += 1;
         }
         let digits = &self.input[first..self.at];
-        if digits.is_empty() || !self.next().is_some_and(white_space) {
+        if digits.is_empty() || !self.next().map_or(false, white_space) {
             return self.wrong();
         }
         size_of_digits(digits).ok_or(refusal(23, first))

@@ -1,6 +1,6 @@
 //! The probing walk, in document 01's order.
 
-use crate::point::{ORIGIN, Point, UNITS, cross, dot, lay, minus, plus, signs, times};
+use crate::point::{cross, dot, lay, minus, plus, signs, times, Point, ORIGIN, UNITS};
 use crate::solid::Solid;
 
 pub const PAIRS: [(usize, usize); 6] = [(0, 1), (0, 2), (1, 0), (1, 2), (2, 0), (2, 1)];

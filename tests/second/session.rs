@@ -1,6 +1,6 @@
 //! The wedge program's session: the whole text in, the whole text out.
 
-use crate::pick::{Pick, pick};
+use crate::pick::{pick, Pick};
 use crate::solid::Wedge;
 
 pub const MOST_BYTES: usize = 65_536;
@@ -9,7 +9,7 @@ pub fn session(input: &[u8]) -> Vec<u8> {
     let read = &input[..input.len().min(MOST_BYTES)];
     let mut lines: Vec<&[u8]> = read.split(|&byte| byte == b'\n').collect();
     // What follows the last LF is a line only if it is not empty.
-    if lines.last().is_some_and(|last| last.is_empty()) {
+    if lines.last().map_or(false, |last| last.is_empty()) {
         lines.pop();
     }
     lines.into_iter().flat_map(|line| answer(line).into_bytes()).collect()

@@ -1,6 +1,6 @@
 //! The two solids and their boxes.
 
-use crate::point::{Point, dot};
+use crate::point::{dot, Point};
 
 /// What the walk asks of a solid.
 pub trait Solid {
@@ -53,7 +53,7 @@ impl Sizes {
 
     /// Bytes of one row: width/8 rounded up.
     pub fn row_bytes(&self) -> usize {
-        (self.width as usize).div_ceil(8)
+        (self.width as usize + 7) / 8
     }
 
     pub fn slice_bytes(&self) -> usize {

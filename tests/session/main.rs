@@ -1,7 +1,7 @@
 //! The second program's own `wedge`: reads at most 65,536 bytes, prints the session.
 
-use second::session::{MOST_BYTES, session};
-use std::io::{Read, Write, stdin, stdout};
+use second::session::{session, MOST_BYTES};
+use std::io::{stdin, stdout, Read, Write};
 
 fn main() -> std::io::Result<()> {
     let mut input = Vec::new();

@@ -1,7 +1,7 @@
 //! Made-up wedges: lines of nine numbers as a session has them.
 
 use crate::chance::Chance;
-use second::point::{Point, dot, lay, plus, signs};
+use second::point::{dot, lay, plus, signs, Point};
 
 /// a b c h, p, frame, R.
 pub type Line = [i32; 9];
@@ -13,7 +13,11 @@ pub fn line_of(normal: Point, h: i64, start: Point, frame: i64, reach: i64) -> L
 }
 
 fn divisor(a: i64, b: i64) -> i64 {
-    if b == 0 { a } else { divisor(b, a % b) }
+    if b == 0 {
+        a
+    } else {
+        divisor(b, a % b)
+    }
 }
 
 /// All positive normals without a common divisor whose parts add to at most w.
@@ -49,9 +53,9 @@ pub fn reach(chance: &mut Chance) -> i64 {
             i64::from(i32::MIN),
             i64::from(i32::MAX),
         ]),
-        1..4 => chance.one_of(&[4, 8, 16, 32, 64, 128, 256]) - chance.between(0, 1),
-        4..6 => chance.one_of(&[3, 5, 9, 17, 33, 65, 129]),
-        6..15 => chance.between(3, 24),
+        1..=3 => chance.one_of(&[4, 8, 16, 32, 64, 128, 256]) - chance.between(0, 1),
+        4..=5 => chance.one_of(&[3, 5, 9, 17, 33, 65, 129]),
+        6..=14 => chance.between(3, 24),
         _ => chance.between(3, 256),
     }
 }
@@ -88,16 +92,16 @@ pub fn level(chance: &mut Chance, w: i64) -> i64 {
     match chance.below(20) {
         0 => chance.between(-w - 2, -1),
         1 => w + chance.between(0, 2),
-        2..6 => 0,
-        6..9 => (w - 1).max(0),
+        2..=5 => 0,
+        6..=8 => (w - 1).max(0),
         _ => chance.between(0, (w - 1).max(0)),
     }
 }
 
 fn start(chance: &mut Chance) -> Point {
     match chance.below(10) {
-        0..4 => [0, 1, 2].map(|_| chance.between(300, 720)),
-        4..6 => near_walls(chance),
+        0..=3 => [0, 1, 2].map(|_| chance.between(300, 720)),
+        4..=5 => near_walls(chance),
         6 => [0, 1, 2].map(|_| chance.one_of(&[0, 1, 511, 1022, 1023])),
         _ => [0, 1, 2].map(|_| chance.between(0, 1023)),
     }
@@ -175,7 +179,7 @@ pub fn line(chance: &mut Chance) -> Line {
     match chance.below(20) {
         0 => [0; 9].map(|_| chance.one_of(&ENDS)),
         1 => [0; 9].map(|_| chance.bits() as i32),
-        2..5 => damaged(chance),
+        2..=4 => damaged(chance),
         5 => steep(chance),
         _ => slope(chance),
     }
