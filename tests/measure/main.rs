@@ -1,4 +1,5 @@
 //! A benchmark, not a test: the library beside plain Rust in one run, as a Markdown table.
+//! The script `here` builds and runs it.
 
 #![allow(dead_code)]
 
@@ -6,7 +7,10 @@
 mod answers;
 #[path = "../shared/chance.rs"]
 mod chance;
-#[path = "../shared/library.rs"]
+#[cfg(target_arch = "x86_64")]
+mod library;
+#[cfg(not(target_arch = "x86_64"))]
+#[path = "lowered.rs"]
 mod library;
 mod plain;
 #[path = "../shared/roomy.rs"]
@@ -192,9 +196,10 @@ fn displays(rows: &mut Vec<Timed>) {
 }
 
 fn machine() -> String {
-    let text = std::fs::read_to_string("/proc/cpuinfo").unwrap_or_default();
-    let model = text.lines().find_map(|line| line.strip_prefix("model name\t: "));
-    model.unwrap_or("unknown processor").to_string()
+    let told = std::process::Command::new("lscpu").output();
+    let text = told.map_or(String::new(), |told| String::from_utf8_lossy(&told.stdout).into());
+    let model = text.lines().find_map(|line| line.strip_prefix("Model name:"));
+    format!("{} ({})", model.unwrap_or("unknown processor").trim(), std::env::consts::ARCH)
 }
 
 fn told(seconds: f64) -> String {

@@ -3,8 +3,8 @@
 
 use crate::chance::Chance;
 use crate::roomy::Roomy;
-use second::pick::{Pick, pick};
-use second::point::{Point, dot, plus};
+use second::pick::{pick, Pick};
+use second::point::{dot, plus, Point};
 use second::solid::{Sizes, WEDGE_SIDE};
 use std::cell::RefCell;
 use std::collections::HashMap;
