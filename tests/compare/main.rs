@@ -168,6 +168,20 @@ fn some_cases(
 
 const BATCH_BYTES: usize = 1 << 20;
 
+/// Which call of a batch the library did not survive: each alone, in a new bridge.
+fn culprit(batch: &[(u64, Call)], error: String) -> (u64, String) {
+    let fails = |call: &Call| {
+        let mut alone = Batch::default();
+        call.send(&mut alone);
+        let mut bridge = Bridge::start();
+        bridge.send(&alone.text).and_then(|()| bridge.receive()).is_err()
+    };
+    match batch.iter().find(|(_, call)| fails(call)) {
+        Some((index, call)) => (*index, format!("{}\n{error}", call.told())),
+        None => (batch[0].0, format!("a batch from here on\n{error}")),
+    }
+}
+
 /// The second program answers while the library does.
 fn compare_batch(
     batch: &[(u64, Call)],
@@ -176,10 +190,9 @@ fn compare_batch(
 ) -> Result<(), (u64, String)> {
     let mut sent = Batch::default();
     batch.iter().for_each(|(_, call)| call.send(&mut sent));
-    let first = batch.first().map_or(0, |&(index, _)| index);
-    bridge.send(&sent.text).map_err(|error| (first, error))?;
+    bridge.send(&sent.text).map_err(|error| culprit(batch, error))?;
     let answers: Vec<Answer> = batch.iter().map(|(_, call)| call.second()).collect();
-    let text = bridge.receive().map_err(|error| (first, error))?;
+    let text = bridge.receive().map_err(|error| culprit(batch, error))?;
     let mut reply = Reply { text, at: 0 };
     for ((index, call), second) in batch.iter().zip(&answers) {
         let library = call.receive(&mut reply);

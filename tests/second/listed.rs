@@ -47,6 +47,15 @@ pub const LINES: &[(&str, &str)] = &[
     // Limits: a slope above the reach may be accepted with another normal.
     ("5 6 7 1801 100 100 100 0 8", "N 1 1 1 0 35"),
     ("5 6 7 9216 511 511 511 0 18", "N 5 6 7 7 208"),
+    // Limits: the reach and the box decide "edge", in the middle of the box too.
+    ("1 1 2 2048 511 511 511 0 4", "N 1 1 2 1 37"),
+    ("1 1 2 2048 511 511 511 0 128", "N 1 1 2 1 87"),
+    ("1 1 2 2048 511 511 511 0 256", "R 8 1024 512 256 1 87"),
+    ("3 5 7 7680 511 511 511 0 15", "N 3 5 7 6 155"),
+    ("3 5 7 7680 511 511 511 0 128", "R 8 1024 384 384 6 219"),
+    ("3 5 7 150 11 9 9 0 15", "R 8 -4 26 10 0 12"),
+    // Limits: the most looks of a wedge that a search has found.
+    ("11 754 698 670469 575 703 191 0 64", "R 9 576 704 192 61 2072"),
     // What the line's form allows and refuses.
     ("-0 0000000001 1 202 100 100 100 0 8", "R 7 100 101 101 0 6"),
     ("1 2 5 808 100 100 100 0 00000000008", "B"),
