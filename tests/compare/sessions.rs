@@ -2,7 +2,7 @@
 
 use crate::bridge::program;
 use crate::chance::Chance;
-use crate::session_texts::{overlong, text};
+use crate::session_texts::{overlong, text, THROUGH_FIRST_DIGIT};
 use crate::tally::Tally;
 use second::listed::SESSIONS;
 use second::session::{session, MOST_BYTES};
@@ -124,7 +124,11 @@ pub const LISTED: u64 = SESSIONS.len() as u64 + 2;
 pub fn any(chance: &mut Chance, index: u64) -> Vec<u8> {
     let lines = chance.below(600);
     match index % 15 {
-        0 => overlong(chance),
+        0 => {
+            let anywhere = chance.len_to(60);
+            let after = chance.one_of(&[THROUGH_FIRST_DIGIT, anywhere]);
+            overlong(chance, after)
+        }
         1 => {
             let len = chance.len_to(66_000);
             (0..len).map(|_| chance.one_of(b"11 2-0\n 8\r\0")).collect()

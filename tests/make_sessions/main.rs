@@ -22,7 +22,8 @@ fn main() -> std::io::Result<()> {
     let mut long: Vec<u8> =
         LINES.iter().flat_map(|(input, _)| format!("{input}\n").into_bytes()).collect();
     long.extend(session_texts::text(&mut Chance::of(1, "session file", 0), 900));
-    let overlong = session_texts::overlong(&mut Chance::of(1, "session file", 1));
+    let mut chance = Chance::of(1, "session file", 1);
+    let overlong = session_texts::overlong(&mut chance, session_texts::THROUGH_FIRST_DIGIT);
     for (name, input) in [("", long), ("overlong.", overlong)] {
         std::fs::write(format!("{folder}/{name}stdout"), session(&input))?;
         std::fs::write(format!("{folder}/{name}stdin"), input)?;

@@ -248,8 +248,10 @@ pub const WRITES: &[WriteCase] = &[
     },
 ];
 
-/// A normal and its sizes over 32768 with their signs, or the refusal number.
-pub const DISPLAYS: &[([i64; 3], Result<[i64; 3], u32>)] = &[
+/// Sizes over 32768 with their signs, or the refusal number.
+pub type Displayed = Result<[i64; 3], u32>;
+
+pub const DISPLAYS: &[([i64; 3], Displayed)] = &[
     ([1, 2, 5], Ok([5982, 11965, 29912])),
     ([1, 1, 1], Ok([18918, 18918, 18918])),
     ([-1, 2, -5], Ok([-5982, 11965, -29912])),

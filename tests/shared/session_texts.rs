@@ -69,16 +69,18 @@ pub fn text(chance: &mut Chance, lines: u64) -> Vec<u8> {
     text
 }
 
-/// A session longer than is read, cut at any place of a line.
-pub fn overlong(chance: &mut Chance) -> Vec<u8> {
+/// From a line's LF before it through the first digit of its reach.
+pub const THROUGH_FIRST_DIGIT: usize = 26;
+
+/// A session longer than is read, cut so many bytes after the last whole line. A line with reach
+/// 88 follows it: cut after the first digit it is a good line with reach 8.
+pub fn overlong(chance: &mut Chance, after: usize) -> Vec<u8> {
     let mut text = text(chance, 2600);
-    while text.len() < MOST_BYTES - 60 {
+    while text.len() < MOST_BYTES {
         text.extend(b"1 2 5 808 100 100 100 0 8\n");
     }
-    let few = chance.len_to(60);
-    text.truncate(MOST_BYTES - few);
-    // The cut falls within this line, before it, or at its end.
-    text.extend(b"\n1 2 5 808 100 100 100 0 8\n");
+    text.truncate(MOST_BYTES - after);
+    text.extend(b"\n1 2 5 808 100 100 100 0 88\n");
     let behind = chance.len_to(70_000);
     text.extend((0..behind).map(|_| chance.one_of(b"1 2\n")));
     text
