@@ -6,8 +6,6 @@
 //! every other is looked at at all powers whatever the level, so any other level looks at those
 //! points and more. For the small reaches that is checked by walking every level.
 
-#![allow(dead_code)]
-
 #[path = "../shared/roomy.rs"]
 mod roomy;
 

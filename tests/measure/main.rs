@@ -23,11 +23,15 @@ use chance::Chance;
 use second::listed::slope_stack;
 use second::point::dot;
 use second::session::pick_of;
+use second::solid::WEDGE_SIDE;
 use std::fmt::Debug;
 use std::time::Instant;
 
 const REDRAW_SECONDS: f64 = 0.033;
 const ROUNDS: usize = 51;
+/// The best of 600 climbs over slopes and of 96 over any solids.
+const BEST_SLOPE: u64 = 73;
+const BEST_STACK: u64 = 83;
 
 /// Medians in seconds for one call, and the median of the rounds' ratios.
 struct Timed {
@@ -140,13 +144,13 @@ fn picks(rows: &mut Vec<Timed>) -> Vec<String> {
             |&line| plain::pick_wedge(line),
         ));
     }
-    let (line, looks) = worst::worst_wedge(60, 1500);
+    let (line, looks) = worst::worst_slope(WEDGE_SIDE, BEST_SLOPE, 4000);
     let told = line.map(|number| number.to_string()).join(" ");
     notes.push(format!("The worst wedge found is `{told}`, {looks} looks."));
     let name = format!("worst pick found, wedge, {looks} looks");
     rows.push(timed(&name, &[line], |&l| library::pick_wedge(l), |&l| plain::pick_wedge(l)));
     typical_stacks(rows);
-    let worst = worst::worst_stack(256, 24, 4000);
+    let worst = worst::worst_stack(256, BEST_STACK, 12_000);
     notes
         .push(format!("The worst stack found takes {} looks, reach {}.", worst.looks, worst.reach));
     let asked = Asked { side: 256, bytes: &worst.bytes, start: worst.start, reach: worst.reach };

@@ -1,11 +1,11 @@
-//! The picks with the most looks that a seeded climb finds with the second program: small changes
-//! are kept as long as the looks do not fall.
+//! Picks with many looks, found with the second program by seeded climbs: small changes are kept
+//! as long as the looks do not fall.
 
 use crate::chance::Chance;
 use crate::roomy::Roomy;
 use second::pick::{pick, Pick};
 use second::point::{dot, plus, Point};
-use second::solid::{Sizes, WEDGE_SIDE};
+use second::solid::Sizes;
 use std::cell::RefCell;
 use std::collections::HashMap;
 
@@ -44,25 +44,19 @@ fn changed_slope(chance: &mut Chance, (mut normal, level, reach): Slope) -> Slop
     (normal, level, reach)
 }
 
-/// The worst slope in a box of this side, as a h start frame reach: a b c h, p, frame, R.
-pub fn worst_slope(side: i64, climbs: u64, changes: u64) -> ([i32; 9], u32) {
-    let mut best = ([0; 9], 0);
-    for climb in 0..climbs {
-        let mut chance = Chance::of(side as u64, "worst slope", climb);
-        let mut slope = any_slope(&mut chance);
-        let mut most = slope_looks(slope, side).0;
-        for _ in 0..changes {
-            let next = changed_slope(&mut chance, slope);
-            let (found, _) = slope_looks(next, side);
-            if found >= most {
-                (slope, most) = (next, found);
-            }
-        }
-        if most > best.1 {
-            best = (laid_in(slope, side), most);
+/// Where one climb over slopes ends: a b c h, p, frame, R, and the looks.
+pub fn worst_slope(side: i64, climb: u64, changes: u64) -> ([i32; 9], u32) {
+    let mut chance = Chance::of(side as u64, "worst slope", climb);
+    let mut slope = any_slope(&mut chance);
+    let mut most = slope_looks(slope, side).0;
+    for _ in 0..changes {
+        let next = changed_slope(&mut chance, slope);
+        let (found, _) = slope_looks(next, side);
+        if found >= most {
+            (slope, most) = (next, found);
         }
     }
-    best
+    (laid_in(slope, side), most)
 }
 
 /// The slope where its looks fit the true box.
@@ -110,27 +104,22 @@ pub struct WorstStack {
     pub looks: u32,
 }
 
-pub fn worst_stack(side: i64, climbs: u64, changes: u64) -> WorstStack {
-    let mut best = (0, AnySolid { reach: 3, answers: vec![false; 14_000] });
-    for climb in 0..climbs {
-        let mut chance = Chance::of(side as u64, "worst stack", climb);
-        let mut solid = any_solid(&mut chance, REACHES[climb as usize % 6]);
-        let (mut most, mut told, _) = solid_looks(&solid, side);
-        for _ in 0..changes {
-            let flipped = chance.below(told.len() as u64) as usize;
+/// Where one climb over any solids ends.
+pub fn worst_stack(side: i64, climb: u64, changes: u64) -> WorstStack {
+    let mut chance = Chance::of(side as u64, "worst stack", climb);
+    let mut solid = any_solid(&mut chance, REACHES[climb as usize % 6]);
+    let (mut most, mut told, _) = solid_looks(&solid, side);
+    for _ in 0..changes {
+        let flipped = chance.below(told.len() as u64) as usize;
+        solid.answers[flipped] ^= true;
+        let (found, met, _) = solid_looks(&solid, side);
+        if found >= most {
+            (most, told) = (found, met);
+        } else {
             solid.answers[flipped] ^= true;
-            let (found, met, _) = solid_looks(&solid, side);
-            if found >= most {
-                (most, told) = (found, met);
-            } else {
-                solid.answers[flipped] ^= true;
-            }
-        }
-        if most > best.0 {
-            best = (most, solid);
         }
     }
-    stack_of(best.1, side)
+    stack_of(solid, side)
 }
 
 fn stack_of(solid: AnySolid, side: i64) -> WorstStack {
@@ -143,8 +132,4 @@ fn stack_of(solid: AnySolid, side: i64) -> WorstStack {
     }
     let start = plus(START, shift).map(|part| part as i32);
     WorstStack { side, bytes, start, reach: solid.reach as i32, looks }
-}
-
-pub fn worst_wedge(climbs: u64, changes: u64) -> ([i32; 9], u32) {
-    worst_slope(WEDGE_SIDE, climbs, changes)
 }

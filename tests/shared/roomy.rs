@@ -3,7 +3,7 @@
 //! alone, so a walk that such a box does not stop has a start in the true box where it is not
 //! stopped, and one that such a box stops is stopped everywhere.
 
-use second::point::{minus, times, Point};
+use second::point::{times, Point};
 use second::solid::Solid;
 use std::cell::Cell;
 
@@ -22,11 +22,6 @@ impl<F: Fn(Point) -> bool> Roomy<F> {
     /// What brings every point that was inside into the box from 0 on.
     pub fn shift(&self) -> Point {
         times(-1, self.low.get())
-    }
-
-    /// How far apart the points that were inside are, on each axis.
-    pub fn extent(&self) -> Point {
-        minus(self.high.get(), self.low.get())
     }
 }
 
