@@ -1,10 +1,11 @@
 // One round: the six pairs, and the choice.
 ghost use mathlib.Core.Path.{_≡_};
 ghost use Prim.Native.Nat.{_≤_};
-ghost use Rattle.rules.specs.Walk.{triangle, first, second, way, with, step, inside};
-ghost use Rattle.laws.specs.Choosing.{better};
+ghost use Rattle.rules.specs.Vectors.{dot};
+ghost use Rattle.rules.specs.Walk.{triangle, first, second, with, step};
+ghost use Rattle.space.specs.Bounds.{Bounded};
 ghost use Rattle.falls.specs.Scene.{Ready};
-ghost use Rattle.round.specs.Round.{Sound, looksOf, PairAskedIn, RoundAskedIn};
+ghost use Rattle.round.specs.Round.{Sound, preferred, looksOf, PairAskedIn, RoundAskedIn};
 use falls::Falls;
 use falls::Scene;
 use rules::Choice;
@@ -12,9 +13,16 @@ use rules::Pair;
 use rules::Triangle;
 use rules::Vector;
 
-// The best falling pair so far, or the point outside at which the round stopped; each with the looks so far.
+// The best falling pair so far, and its g. For the pair (k, l) that is m_l·(m_l - m_k): strictly inside a pair's sphere is a smaller g
+// (`inside-by-g`), so the choice is the first falling pair of least g.
+pub struct Best {
+    pub choice: Choice,
+    pub least: i64,
+}
+
+// The best so far, or the point outside at which the round stopped; each with the looks so far.
 pub enum Round {
-    Asked(Choice, u32),
+    Asked(Best, u32),
     Stopped(Vector, u32),
 }
 
@@ -46,14 +54,6 @@ fn second_of(m: Triangle, x: Pair) -> Vector
         Pair::P20 => m.m0,
         Pair::P21 => m.m1,
     }
-}
-
-// m_l - m_k
-fn way_of(m: Triangle, x: Pair) -> Vector
-    requires { ⌜ Sound m ⌝ }
-    ensures { λ r. ⌜ r ≡ way m x ⌝ }
-{
-    space::subtract(second_of(m, x), first_of(m, x))
 }
 
 pub fn make_triangle(a: Vector, b: Vector, c: Vector) -> Triangle
@@ -92,72 +92,61 @@ pub fn step_by(m: Triangle, x: Pair) -> Triangle
     replace(m, x, a)
 }
 
-// ---- the choice
+// ---- the round
 
-// Whether y is strictly inside the sphere through the triangle and x.
-fn is_nearer(m: Triangle, x: Pair, y: Pair) -> bool
-    requires { ⌜ Sound m ⌝ }
-    ensures { λ r. ⌜ r ≡ inside m x y ⌝ }
+// The pair y falls too; b is its m_l, and w its m_l - m_k.
+fn prefer(sofar: Best, y: Pair, b: Vector, w: Vector) -> Best
+    requires { ⌜ Bounded 1000000000 b × Bounded 1000000000 w ⌝ }
+    ensures { λ r. ⌜ r ≡ preferred sofar y (dot b w) ⌝ }
 {
-    let m0 = m.m0;
-    let m1 = m.m1;
-    let m2 = m.m2;
-    let a = space::subtract(m0, m1);
-    let b = space::subtract(m0, m2);
-    let c = space::add(m0, way_of(m, x));
-    let e = space::add(m0, way_of(m, y));
-    space::sphere(a, b, c, e) < 0
-}
-
-// The best so far, and y falls too.
-fn prefer(m: Triangle, c: Choice, y: Pair) -> Choice
-    requires { ⌜ Sound m ⌝ }
-    ensures { λ r. ⌜ r ≡ better m c y ⌝ }
-{
-    match c {
-        Choice::Nothing => Choice::Chosen(y),
-        Choice::Chosen(x) => {
-            if is_nearer(m, x, y) {
-                Choice::Chosen(y)
-            } else {
-                Choice::Chosen(x)
-            }
+    let g = space::dot(b, w);
+    if g < sofar.least {
+        Best {
+            choice: Choice::Chosen(y),
+            least: g,
         }
+    } else {
+        sofar
     }
 }
 
-// ---- the round
-
-// One pair more.
-fn ask_pair(scene: Scene, bytes: &[u8], m: Triangle, x: Pair, sofar: Round) -> Round
-    requires { ⌜ Ready scene (now bytes) × Sound m × (looksOf sofar ≤ 1500000) ⌝ }
-    ensures { λ r. ⌜ PairAskedIn scene (now (bytes .entry)) m x sofar r ⌝ }
+// One pair more: x, whose m_k is a and whose m_l is b.
+fn ask_pair(scene: Scene, bytes: &[u8], x: Pair, a: Vector, b: Vector, sofar: Round) -> Round
+    requires { ⌜ Ready scene (now bytes) × Bounded 1023 a × Bounded 1023 b × (looksOf sofar ≤ 1500000) ⌝ }
+    ensures { λ r. ⌜ PairAskedIn scene (now (bytes .entry)) x a b sofar r ⌝ }
 {
     match sofar {
         Round::Stopped(p, n) => Round::Stopped(p, n),
-        Round::Asked(c, n) => {
+        Round::Asked(best, n) => {
             let s = scene.signs;
-            let u = space::lay(s, way_of(m, x));
+            let w = space::subtract(b, a);
+            let u = space::lay(s, w);
             let f = falls::ask_falls(scene, bytes, u, n);
             match f {
-                Falls::Fell(k) => Round::Asked(prefer(m, c, x), k),
-                Falls::Kept(k) => Round::Asked(c, k),
+                Falls::Fell(k) => Round::Asked(prefer(best, x, b, w), k),
+                Falls::Kept(k) => Round::Asked(best, k),
                 Falls::Stopped(p, k) => Round::Stopped(p, k),
             }
         }
     }
 }
 
-// All six pairs, even after one has fallen.
+// All six pairs, even after one has fallen. Every g is below 10,000,000.
 pub fn ask_round(scene: Scene, bytes: &[u8], m: Triangle, looks: u32) -> Round
     requires { ⌜ Ready scene (now bytes) × Sound m × (looks ≤ 1000000) ⌝ }
     ensures { λ r. ⌜ RoundAskedIn scene (now (bytes .entry)) m looks r ⌝ }
 {
-    let none = Round::Asked(Choice::Nothing, looks);
-    let a = ask_pair(scene, bytes, m, Pair::P01, none);
-    let b = ask_pair(scene, bytes, m, Pair::P02, a);
-    let c = ask_pair(scene, bytes, m, Pair::P10, b);
-    let d = ask_pair(scene, bytes, m, Pair::P12, c);
-    let e = ask_pair(scene, bytes, m, Pair::P20, d);
-    ask_pair(scene, bytes, m, Pair::P21, e)
+    let m0 = m.m0;
+    let m1 = m.m1;
+    let m2 = m.m2;
+    let none = Best {
+        choice: Choice::Nothing,
+        least: 10000000,
+    };
+    let a = ask_pair(scene, bytes, Pair::P01, m0, m1, Round::Asked(none, looks));
+    let b = ask_pair(scene, bytes, Pair::P02, m0, m2, a);
+    let c = ask_pair(scene, bytes, Pair::P10, m1, m0, b);
+    let d = ask_pair(scene, bytes, Pair::P12, m1, m2, c);
+    let e = ask_pair(scene, bytes, Pair::P20, m2, m0, d);
+    ask_pair(scene, bytes, Pair::P21, m2, m1, e)
 }

@@ -25,6 +25,7 @@ use Rattle.falls.specs.Tally.{Tally, yes, no, Gives}
 use Rattle.falls.proofs.Tallies.{then-yes, then-no, asked-yes, asked-no, at-once, refused-at-once, was-answered}
 use Rattle.falls.specs.declared.Scene.{Scene}
 use Rattle.falls.specs.Scene.{Ready}
+use Rattle.round.specs.declared.Best.{Best}
 use Rattle.round.specs.declared.Round.{Round}
 use Rattle.round.specs.declared.Round.the-variants.{Asked as IsAsked, Stopped}
 use Rattle.round.specs.Round.{Sound, told as toldRound, looksOf, RoundAsked}
@@ -93,18 +94,18 @@ module _ {look : Vector → Look} {q s : Vector} {reach looks : ℕ} {m : Triang
   pub walks-stopped : {p : Vector} {k : ℕ} {a : Refused} → r ≡ Stopped p k → a ≡ refusalOf 8 p steps k → Walks look q s reach looks (IsRefused a)
   walks-stopped e f = record { gives = rw f (h .rest (walk-stopped look q s (powers reach) m steps n (reach - 3 - steps) (round-gave e))); sound = tt }
 
-  pub walks-ended : {c : Choice} {k : ℕ} → r ≡ IsAsked c k → c ≡ Nothing → Walks look q s reach looks (Ended m steps k)
-  walks-ended {k = k} e f = record { gives = h .rest (walk-ended look q s (powers reach) m steps n (reach - 3 - steps) (round-gave (e ∙ ap (λ (c : Choice). IsAsked c k) f))); sound = h .sound }
+  pub walks-ended : {b : Best} {k : ℕ} → r ≡ IsAsked b k → b .choice ≡ Nothing → Walks look q s reach looks (Ended m steps k)
+  walks-ended e f = record { gives = h .rest (walk-ended look q s (powers reach) m steps n (reach - 3 - steps) (rw f at (round-gave e))); sound = h .sound }
 
-  pub walks-spent : {c : Choice} {x : Pair} {k : ℕ} {a : Refused} → r ≡ IsAsked c k → c ≡ Chosen x → steps ≡ reach - 3 → a ≡ refusalOf 9 q steps k → Walks look q s reach looks (IsRefused a)
-  walks-spent {k = k} e f z i =
+  pub walks-spent : {b : Best} {x : Pair} {k : ℕ} {a : Refused} → r ≡ IsAsked b k → b .choice ≡ Chosen x → steps ≡ reach - 3 → a ≡ refusalOf 9 q steps k → Walks look q s reach looks (IsRefused a)
+  walks-spent e f z i =
       let none : reach - 3 - steps ≡ 0 = omega arith in
-      record { gives = rw i (h .rest (rw none (walk-spent look q s (powers reach) m steps n (round-gave (e ∙ ap (λ (c : Choice). IsAsked c k) f))))); sound = tt }
+      record { gives = rw i (h .rest (rw none (walk-spent look q s (powers reach) m steps n (rw f at (round-gave e))))); sound = tt }
 
-pub walks-on : {v : Scene} {bytes : List ℕ} {looks : ℕ} {m next : Triangle} {steps n : ℕ} {r : Round} {c : Choice} {x : Pair} {k : ℕ} → Ready v bytes → Walking (look (v .solid) bytes) (v .apex) (v .signs) (v .reach) looks m steps n → RoundAsked (look (v .solid) bytes) (v .apex) (v .signs) (v .reach) m n r → r ≡ IsAsked c k → c ≡ Chosen x → (steps ≡ v .reach - 3 → ⊥) → next ≡ step m x → Walking (look (v .solid) bytes) (v .apex) (v .signs) (v .reach) looks next (steps + 1) k
-walks-on {v} {bytes} {looks} {m} {next} {steps} {n} {r} {c} {x} {k} ready h g e f z i =
+pub walks-on : {v : Scene} {bytes : List ℕ} {looks : ℕ} {m next : Triangle} {steps n : ℕ} {r : Round} {b : Best} {x : Pair} {k : ℕ} → Ready v bytes → Walking (look (v .solid) bytes) (v .apex) (v .signs) (v .reach) looks m steps n → RoundAsked (look (v .solid) bytes) (v .apex) (v .signs) (v .reach) m n r → r ≡ IsAsked b k → b .choice ≡ Chosen x → (steps ≡ v .reach - 3 → ⊥) → next ≡ step m x → Walking (look (v .solid) bytes) (v .apex) (v .signs) (v .reach) looks next (steps + 1) k
+walks-on {v} {bytes} {looks} {m} {next} {steps} {n} {r} {b} {x} {k} ready h g e f z i =
     let left : v .reach - 3 - steps ≡ suc (v .reach - 3 - suc steps) = omega (arith, h .low) in
-    let gave = round-gave h g (e ∙ ap (λ (d : Choice). IsAsked d k) f) in
+    let gave = rw f at (round-gave h g e) in
     record {
       sound = rw i (step-sound ready (h .sound) gave x);
       low = omega (arith, h .low);

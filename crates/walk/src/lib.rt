@@ -53,19 +53,22 @@ pub fn walk_on(scene: Scene, bytes: &[u8], looks: u32) -> Walked
             Round::Stopped(p, k) => {
                 break Walked::Refused(refusal(8, p, steps, k));
             }
-            Round::Asked(c, k) => match c {
-                Choice::Nothing => {
-                    break Walked::Ended(m, steps, k);
-                }
-                Choice::Chosen(x) => {
-                    if steps == limit {
-                        break Walked::Refused(refusal(9, q, steps, k));
+            Round::Asked(best, k) => {
+                let c = best.choice;
+                match c {
+                    Choice::Nothing => {
+                        break Walked::Ended(m, steps, k);
                     }
-                    m = round::step_by(m, x);
-                    steps = steps + 1;
-                    n = k;
+                    Choice::Chosen(x) => {
+                        if steps == limit {
+                            break Walked::Refused(refusal(9, q, steps, k));
+                        }
+                        m = round::step_by(m, x);
+                        steps = steps + 1;
+                        n = k;
+                    }
                 }
-            },
+            }
         }
     };
     end
