@@ -110,9 +110,9 @@ pub fn cross(a: Vector, b: Vector) -> Vector
     }
 }
 
-// A term of the expansion along the last column: d·d times the determinant whose first two rows have the cross product n.
+// A term of the expansion along the last column: d·d times the determinant of a and two rows whose cross product is n.
 fn term(d: Vector, n: Vector, a: Vector) -> i64
-    requires { ⌜ Bounded 3069 d × Bounded 12558348 n × Bounded 3069 a ⌝ }
+    requires { ⌜ Bounded 3069 d × Bounded 18837522 n × Bounded 3069 a ⌝ }
     ensures { λ r. ⌜ r ≡ dot d d *ℤ dot n a ⌝ }
 {
     let s = dot(d, d);
@@ -126,9 +126,10 @@ pub fn sphere(a: Vector, b: Vector, c: Vector, e: Vector) -> i64
     ensures { λ r. ⌜ r ≡ sphere a b c e ⌝ }
 {
     let n = cross(a, b);
+    let o = cross(c, e);
     let s = term(e, n, c);
     let t = term(c, n, e);
-    let u = term(b, cross(a, c), e);
-    let v = term(a, cross(b, c), e);
+    let u = term(b, o, a);
+    let v = term(a, o, b);
     s - t + u - v
 }

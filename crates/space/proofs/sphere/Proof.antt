@@ -1,6 +1,8 @@
 -- The terms with the long rows c and e squared are at most 2.2·10^18, the others at most 1.5·10^18: every partial sum stays below 7.3·10^18 and fits in 64 bits.
-use mathlib.Core.Path.{_≡_, refl, _∙_}
+use mathlib.Core.Path.{_≡_, _∙_}
+use mathlib.Core.List.{[], _∷_}
 use lib.IntN.{_+ℤ_, _-ℤ_, _*ℤ_}
+use Rattle.integers.specs.Reify.{byring, sides}
 use Rattle.integers.specs.Machine.{fits, value}
 use Rattle.rules.specs.declared.Vector.{Vector}
 use Rattle.rules.specs.Vectors.{dot, cross, det, sphere}
@@ -8,10 +10,15 @@ use Rattle.space.specs.Bounds.{measured, bounded}
 use Rattle.space.proofs.sphere.Statement.{statement}
 use Rattle.space.proofs.sphere.Tie as tie
 
+-- the same determinant with its first row last
+turned : (a c e : Vector) → dot (cross c e) a ≡ det a c e
+unfolding det dot cross
+turned a c e = byring (a .x ∷ a .y ∷ a .z ∷ c .x ∷ c .y ∷ c .z ∷ e .x ∷ e .y ∷ e .z ∷ []) (search sides depth 40 fits 5000) tt
+
 -- the terms as they are computed
-expanded : (a b c e : Vector) → dot e e *ℤ dot (cross a b) c -ℤ dot c c *ℤ dot (cross a b) e +ℤ dot b b *ℤ dot (cross a c) e -ℤ dot a a *ℤ dot (cross b c) e ≡ sphere a b c e
+expanded : (a b c e : Vector) → dot e e *ℤ dot (cross a b) c -ℤ dot c c *ℤ dot (cross a b) e +ℤ dot b b *ℤ dot (cross c e) a -ℤ dot a a *ℤ dot (cross c e) b ≡ sphere a b c e
 unfolding sphere det
-expanded a b c e = refl
+expanded a b c e = λ i. dot e e *ℤ dot (cross a b) c -ℤ dot c c *ℤ dot (cross a b) e +ℤ dot b b *ℤ turned a c e i -ℤ dot a a *ℤ turned b c e i
 
 returns : tie.Need-returns
 returns c = value (search measured depth 30 fits 5000) tt ∙ expanded _ _ _ _
@@ -21,11 +28,10 @@ sphere-spec =
     tie.close
     (tie.spec
     (λ c κs. (bounded (search measured depth 30 fits 5000) tt, bounded (search measured depth 30 fits 5000) tt))
-    (λ c κs. (bounded (search measured depth 30 fits 5000) tt, bounded (search measured depth 30 fits 5000) tt, bounded (search measured depth 30 fits 5000) tt))
-    (λ c κs. (bounded (search measured depth 30 fits 5000) tt, bounded (search measured depth 30 fits 5000) tt, bounded (search measured depth 30 fits 5000) tt))
     (λ c κs. (bounded (search measured depth 30 fits 5000) tt, bounded (search measured depth 30 fits 5000) tt))
     (λ c κs. (bounded (search measured depth 30 fits 5000) tt, bounded (search measured depth 30 fits 5000) tt, bounded (search measured depth 30 fits 5000) tt))
-    (λ c κs. (bounded (search measured depth 30 fits 5000) tt, bounded (search measured depth 30 fits 5000) tt))
+    (λ c κs. (bounded (search measured depth 30 fits 5000) tt, bounded (search measured depth 30 fits 5000) tt, bounded (search measured depth 30 fits 5000) tt))
+    (λ c κs. (bounded (search measured depth 30 fits 5000) tt, bounded (search measured depth 30 fits 5000) tt, bounded (search measured depth 30 fits 5000) tt))
     (λ c κs. (bounded (search measured depth 30 fits 5000) tt, bounded (search measured depth 30 fits 5000) tt, bounded (search measured depth 30 fits 5000) tt))
     (λ c. fits (search measured depth 30 fits 5000) tt)
     (λ c. fits (search measured depth 30 fits 5000) tt)
