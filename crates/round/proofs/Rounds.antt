@@ -1,12 +1,11 @@
 -- The round, pair by pair: a pair that fell is weighed against the best so far, one that kept is passed over, a point outside ends the round.
 -- The best of those that fall is the definition's choice, since the triangle's determinant is 1.
-use mathlib.Core.Path.{_≡_, refl, sym, ap, subst, _∙_}
+use mathlib.Core.Path.{_≡_, refl, sym, ap, _∙_}
 use mathlib.Core.Bool.{Bool, true, false}
 use mathlib.Core.List.{List, [], _∷_}
 use Prim.Native.Nat.{ℕ}
 use native.Mathlib.Omega.{arith}
-use lib.IntN.{ℤ, pos}
-use lib.Signed.{ltZ}
+use lib.IntN.{pos}
 use Rattle.rules.specs.declared.Vector.{Vector}
 use Rattle.rules.specs.declared.Look.{Look}
 use Rattle.rules.specs.declared.Triangle.{Triangle}
@@ -14,144 +13,128 @@ use Rattle.rules.specs.declared.Pair.{Pair}
 use Rattle.rules.specs.declared.Pair.the-variants.{P01, P02, P10, P12, P20, P21}
 use Rattle.rules.specs.declared.Choice.{Choice}
 use Rattle.rules.specs.declared.Choice.the-variants.{Nothing, Chosen}
-use Rattle.rules.specs.Vectors.{_⊖_, dot, lay}
+use Rattle.rules.specs.Vectors.{_⊕_, _⊖_, lay}
 use Rattle.rules.specs.Asked.{Asked, answered, _>>=_}
-use Rattle.rules.specs.Walk.{powers, pairs, way, inside, keep, falls, falling, round}
-use Rattle.falls.specs.Tally.{tally, Gives}
+use Rattle.rules.specs.Walk.{powers, pairs, way, determinant, inside, keep, falls, falling, round}
+use Rattle.falls.specs.Tally.{Tally, yes, no, tally, Gives}
 use Rattle.falls.specs.declared.Falls.{Falls}
 use Rattle.falls.specs.declared.Falls.the-variants.{Fell, Kept, Stopped as Stops}
 use Rattle.falls.specs.Falls.{told, looksOf as looksOfFalls, Fallen}
 use Rattle.falls.proofs.Tallies.{then-yes, inner-yes, inner-no, made-twice, at-once}
 use Rattle.laws.specs.Triples.{detOf}
-use Rattle.laws.specs.Tests.{less}
-use Rattle.laws.specs.Sphere.{g}
-use Rattle.laws.specs.Choosing.{better, best, inside-by-g, best-is-choice}
-use Rattle.round.specs.Round.{Sound, told as toldRound, looksOf, bestOf, preferred, Least, Weighed, remaining, rest, PairAsked, RoundAsked}
-use Rattle.round.proofs.Pairs.{g-low}
+use Rattle.laws.specs.Choosing.{better, best, best-is-choice}
+use Rattle.round.specs.Round.{Sound, told as toldRound, looksOf, bestOf, rowOf, nearer, Weighs, Weighed, Preferred, Made, remaining, rest, PairAsked, RoundAsked}
+use Rattle.round.proofs.Pairs.{way-is}
 use Rattle.round.specs.declared.Best.{Best}
 use Rattle.round.specs.declared.Round.{Round}
 use Rattle.round.specs.declared.Round.the-variants.{Asked as IsAsked, Stopped}
 
--- ---- the pair of smaller g is the better one
-module _ {m : Triangle} (h : Sound m) (x : Pair) where
-  prefers : (c : Choice) (l : ℤ) → Least m c l → (own : ℤ) × (preferred (bestOf c l) x (g m x) ≡ bestOf (better m c x) own) × Least m (better m c x) own
-  unfolding preferred better
-  prefers Nothing l e = (g m x, rw (ap (ltZ (g m x)) e ∙ less (g m x) (pos 10000000) (g-low h x), preferred), refl)
-  prefers (Chosen y) l e = go (inside m y x) refl (ap (ltZ (g m x)) e ∙ sym (inside-by-g m (h .unimodular) y x))
-    where
-      go : (b : Bool) → inside m y x ≡ b → ltZ (g m x) l ≡ inside m y x
-          → (own : ℤ) × (preferred (bestOf (Chosen y) l) x (g m x) ≡ bestOf (better m (Chosen y) x) own) × Least m (better m (Chosen y) x) own
-      go true i t = (g m x, rw (t ∙ i, i, preferred, better), rw (i, better))
-      go false i t = (l, rw (t ∙ i, i, preferred, better), rw (i, better) e)
+-- ---- the best so far and a pair that falls too: by the sphere through the triangle and the best so far
+row-is : (m : Triangle) (y : Pair) {e w : Vector} → e ≡ m .m0 ⊕ w → w ≡ way m y → e ≡ rowOf m y
+row-is m y i j = i ∙ ap (λ (u : Vector). m .m0 ⊕ u) j
 
--- what the pair's answer makes of the round, at the best so far
-weigh : Pair → Best → ℤ → Falls → Round
-weigh x k own (Fell n) = IsAsked (preferred k x own) n
-weigh x k own (Kept n) = IsAsked k n
-weigh x k own (Stops p n) = Stopped p n
+inside-is : (m : Triangle) (x y : Pair) {c e : Vector} {b : Bool} → b ≡ nearer m c e → c ≡ rowOf m x → e ≡ rowOf m y → inside m x y ≡ b
+unfolding inside determinant
+inside-is m x y n i j = sym (n ∙ (λ l. nearer m (i l) (j l)))
 
-weigh-looks : (x : Pair) (k : Best) (own : ℤ) (f : Falls) → looksOf (weigh x k own f) ≡ looksOfFalls f
-unfolding weigh
-weigh-looks x k own (Fell n) = refl
-weigh-looks x k own (Kept n) = refl
-weigh-looks x k own (Stops p n) = refl
+module _ {m : Triangle} {k : Best} {y : Pair} {e w : Vector} (i : e ≡ m .m0 ⊕ w) (j : w ≡ way m y) where
+  pub prefers-first : k .choice ≡ Nothing → Preferred m k y (bestOf (Chosen y) e)
+  unfolding better
+  prefers-first c = record { is = rw (c, better); weighed = row-is m y i j }
 
-module _ (look : Vector → Look) (q s : Vector) (reach : ℕ) {m : Triangle} (h : Sound m) (x : Pair) (k : Best) (e : Least m (k .choice) (k .least)) where
+  module _ {x : Pair} {b : Bool} (c : k .choice ≡ Chosen x) (h : Weighs m (k .choice) (k .row)) (n : b ≡ nearer m (k .row) e) where
+    pub prefers-next : b ≡ true → Preferred m k y (bestOf (Chosen y) e)
+    unfolding better
+    prefers-next t = record { is = rw (c, inside-is m x y n (rw c at h) (row-is m y i j) ∙ t, better); weighed = row-is m y i j }
+
+    pub prefers-before : b ≡ false → Preferred m k y k
+    unfolding better
+    prefers-before t = record { is = rw (c, inside-is m x y n (rw c at h) (row-is m y i j) ∙ t, better); weighed = h }
+
+pub ruleset prefers = (prefers-first, prefers-next, prefers-before)
+
+-- ---- what the pair's answer makes of the round, at the best c so far
+module _ (look : Vector → Look) (q s : Vector) (reach : ℕ) (m : Triangle) (x : Pair) where
   question : Asked Vector Bool
   question = falls look q (lay s (way m x)) (powers reach)
 
-  weigh-weighed : (f : Falls) → Weighed m (weigh x k (g m x) f)
-  unfolding weigh
-  weigh-weighed (Fell n) = let p = prefers h x (k .choice) (k .least) e in subst (λ (b : Best). Least m (b .choice) (b .least)) (sym (p .1)) (p .2)
-  weigh-weighed (Kept n) = e
-  weigh-weighed (Stops p n) = tt
+  weighed : Choice → Falls → Tally Vector Choice
+  weighed c (Fell k) = yes (better m c x) k
+  weighed c (Kept k) = yes c k
+  weighed c (Stops p k) = no p k
 
-  module _ (n : ℕ) (ps : List Pair) where
+  module _ (c : Choice) (n : ℕ) (ps : List Pair) where
     -- the pairs behind, with f made of those of them that fall
-    pairs-behind : (j : ℕ) (f : List Pair → List Pair)
-        → Gives j ((falling look q s (powers reach) m ps >>= λ fs. answered (f fs) []) >>= λ fs. answered (best m (k .choice) fs) []) (tally j (falling look q s (powers reach) m ps >>= λ fs. answered (best m (k .choice) (f fs)) []))
-    pairs-behind j f = record { is = sym (ap (tally j) (made-twice (falling look q s (powers reach) m ps) f (λ fs. best m (k .choice) fs))) }
+    pairs-behind : (k : ℕ) (f : List Pair → List Pair) → Gives k ((falling look q s (powers reach) m ps >>= λ fs. answered (f fs) []) >>= λ fs. answered (best m c fs) []) (tally k (falling look q s (powers reach) m ps >>= λ fs. answered (best m c (f fs)) []))
+    pairs-behind k f = record { is = sym (ap (tally k) (made-twice (falling look q s (powers reach) m ps) f (λ fs. best m c fs))) }
 
-    rest-is : (f : Falls) → Gives n question (told f) → rest look q s reach m ps (weigh x k (g m x) f) ≡ rest look q s reach m (x ∷ ps) (IsAsked k n)
-    unfolding question weigh remaining falling keep best
-    rest-is (Fell j) a = ap (λ (b : Best). rest look q s reach m ps (IsAsked b j)) (prefers h x (k .choice) (k .least) e .1) ∙ inner-yes _ _ a (pairs-behind j (λ fs. x ∷ fs)) .is
-    rest-is (Kept j) a = inner-yes _ _ a (pairs-behind j (λ fs. fs)) .is
-    rest-is (Stops p j) a = inner-no _ _ a .is
+    rest-is : (f : Falls) → Gives n question (told f) → rest look q s reach m ps (weighed c f) ≡ rest look q s reach m (x ∷ ps) (yes c n)
+    unfolding question weighed remaining falling keep best
+    rest-is (Fell k) h = inner-yes _ _ h (pairs-behind k (λ fs. x ∷ fs)) .is
+    rest-is (Kept k) h = inner-yes _ _ h (pairs-behind k (λ fs. fs)) .is
+    rest-is (Stops p k) h = inner-no _ _ h .is
 
 -- ---- one pair, from what the falls question promised to what one pair more promises
-module _ {look : Vector → Look} {q s : Vector} {reach : ℕ} {x : Pair} {a b : Vector} {before : Round} where
-  pub pair-halted : {p : Vector} {n : ℕ} → before ≡ Stopped p n → PairAsked look q s reach x a b before (Stopped p n)
-  pair-halted e = record {
-    onward = λ {m} o ea eb ew. record { is = λ ps. sym (ap (rest look q s reach m (x ∷ ps)) e); weighed = tt };
-    few = omega (arith, ap looksOf e);
-  }
+module _ {look : Vector → Look} {q s : Vector} {reach : ℕ} {m : Triangle} {x : Pair} {before : Round} where
+  pub pair-halted : {p : Vector} {n : ℕ} → before ≡ Stopped p n → PairAsked look q s reach m x before (Stopped p n)
+  pair-halted e = record { is = λ ps. sym (ap (λ (r : Round). rest look q s reach m (x ∷ ps) (toldRound r)) e); weighed = tt; few = omega (arith, ap looksOf e) }
 
-  module _ {k : Best} {n : ℕ} {f : Falls} {u w : Vector} (h : Fallen look q u reach n f) (i : u ≡ lay s w) (j : w ≡ b ⊖ a) (e : before ≡ IsAsked k n) where
-    pair-by : {r : Round} → r ≡ weigh x k (dot b w) f → PairAsked look q s reach x a b before r
+  module _ {k : Best} {n : ℕ} {f : Falls} {a b u w : Vector} (h : Fallen look q u reach n f) (i : u ≡ lay s w) (j : w ≡ b ⊖ a) (made : Made m x a b) (e : before ≡ IsAsked k n) where
+    pair-by : {r : Round} → toldRound r ≡ weighed look q s reach m x (k .choice) f → looksOf r ≡ looksOfFalls f → Weighed m r → PairAsked look q s reach m x before r
     unfolding question
-    pair-by {r} v = record {
-      onward = λ {m} o ea eb ew.
-          let way-is : w ≡ way m x = j ∙ (λ t. eb t ⊖ ea t) in
-          let r-is = v ∙ ap (λ (z : ℤ). weigh x k z f) (λ t. dot (eb t) (way-is t)) in
-          let l : Least m (k .choice) (k .least) = subst (Weighed m) e ew in
-          record {
-            is = λ ps. ap (rest look q s reach m ps) r-is ∙ rest-is look q s reach o x k l n ps f (rw (← way-is, ← i) (h .gives)) ∙ sym (ap (rest look q s reach m (x ∷ ps)) e);
-            weighed = subst (Weighed m) (sym r-is) (weigh-weighed look q s reach o x k l f);
-          };
-      few = omega (arith, h .few, ap looksOf v, weigh-looks x k (dot b w) f, ap looksOf e);
+    pair-by {r} v l o = record {
+      is = λ ps.
+          ap (rest look q s reach m ps) v
+          ∙ rest-is look q s reach m x (k .choice) n ps f (rw (← way-is made j, ← i) (h .gives))
+          ∙ sym (ap (λ (r : Round). rest look q s reach m (x ∷ ps) (toldRound r)) e);
+      weighed = o;
+      few = omega (arith, h .few, l, ap looksOf e);
     }
 
-    pub pair-fell : {t : ℕ} {d : Best} → f ≡ Fell t → d ≡ preferred k x (dot b w) → PairAsked look q s reach x a b before (IsAsked d t)
-    unfolding weigh
-    pair-fell {t} g v = pair-by (ap (λ (d : Best). IsAsked d t) v ∙ sym (ap (weigh x k (dot b w)) g))
+    pub pair-fell : {t : ℕ} {d : Best} → f ≡ Fell t → Preferred m k x d → PairAsked look q s reach m x before (IsAsked d t)
+    unfolding weighed
+    pair-fell {t} g v = pair-by (ap (λ (c : Choice). yes c t) (v .is) ∙ sym (ap (weighed look q s reach m x (k .choice)) g)) (sym (ap looksOfFalls g)) (v .weighed)
 
-    pub pair-kept : {t : ℕ} → f ≡ Kept t → PairAsked look q s reach x a b before (IsAsked k t)
-    unfolding weigh
-    pair-kept g = pair-by (sym (ap (weigh x k (dot b w)) g))
+    pub pair-kept : {t : ℕ} → f ≡ Kept t → Weighed m before → PairAsked look q s reach m x before (IsAsked k t)
+    unfolding weighed
+    pair-kept g o = pair-by (sym (ap (weighed look q s reach m x (k .choice)) g)) (sym (ap looksOfFalls g)) (rw e at o)
 
-    pub pair-stopped : {p : Vector} {t : ℕ} → f ≡ Stops p t → PairAsked look q s reach x a b before (Stopped p t)
-    unfolding weigh
-    pair-stopped g = pair-by (sym (ap (weigh x k (dot b w)) g))
+    pub pair-stopped : {p : Vector} {t : ℕ} → f ≡ Stops p t → PairAsked look q s reach m x before (Stopped p t)
+    unfolding weighed
+    pair-stopped g = pair-by (sym (ap (weighed look q s reach m x (k .choice)) g)) (sym (ap looksOfFalls g)) tt
 
 pub ruleset paired = (pair-halted, pair-fell, pair-kept, pair-stopped)
 
 -- ---- the whole round
-none-left : (look : Vector → Look) (q s : Vector) (reach : ℕ) (m : Triangle) (r : Round) → toldRound r ≡ rest look q s reach m [] r
+none-left : (look : Vector → Look) (q s : Vector) (reach : ℕ) (m : Triangle) (r : Tally Vector Choice) → r ≡ rest look q s reach m [] r
 unfolding remaining falling best
-none-left look q s reach m (IsAsked k n) = then-yes _ at-once at-once .is
-none-left look q s reach m (Stopped p n) = refl
+none-left look q s reach m (yes c n) = then-yes _ at-once at-once .is
+none-left look q s reach m (no p n) = refl
 
-best-of-all : (look : Vector → Look) (q s : Vector) (reach : ℕ) (m : Triangle) (n : ℕ) → detOf m ≡ pos 1 → rest look q s reach m pairs (IsAsked (bestOf Nothing (pos 10000000)) n) ≡ tally n (round look q s (powers reach) m)
+best-of-all : (look : Vector → Look) (q s : Vector) (reach : ℕ) (m : Triangle) (n : ℕ) → detOf m ≡ pos 1 → rest look q s reach m pairs (yes Nothing n) ≡ tally n (round look q s (powers reach) m)
 unfolding remaining round
 best-of-all look q s reach m n d = ap (λ (g : List Pair → Choice). tally n (falling look q s (powers reach) m pairs >>= λ fs. answered (g fs) [])) (λ i fs. best-is-choice m d fs i)
 
-module _ {look : Vector → Look} {q s : Vector} {reach : ℕ} {m : Triangle} {n : ℕ} {a b c d e f : Round} where
+module _ {look : Vector → Look} {q s : Vector} {reach : ℕ} {m : Triangle} {n : ℕ} {a b c d e f : Round} {none : Vector} where
   pub round-asked : Sound m
-      → PairAsked look q s reach P01 (m .m0) (m .m1) (IsAsked (bestOf Nothing (pos 10000000)) n) a
-      → PairAsked look q s reach P02 (m .m0) (m .m2) a b
-      → PairAsked look q s reach P10 (m .m1) (m .m0) b c
-      → PairAsked look q s reach P12 (m .m1) (m .m2) c d
-      → PairAsked look q s reach P20 (m .m2) (m .m0) d e
-      → PairAsked look q s reach P21 (m .m2) (m .m1) e f
+      → PairAsked look q s reach m P01 (IsAsked (bestOf Nothing none) n) a
+      → PairAsked look q s reach m P02 a b
+      → PairAsked look q s reach m P10 b c
+      → PairAsked look q s reach m P12 c d
+      → PairAsked look q s reach m P20 d e
+      → PairAsked look q s reach m P21 e f
       → RoundAsked look q s reach m n f
-  round-asked h pa pb pc pd pe pf =
-      let oa = pa .onward h refl refl refl in
-      let ob = pb .onward h refl refl (oa .weighed) in
-      let oc = pc .onward h refl refl (ob .weighed) in
-      let od = pd .onward h refl refl (oc .weighed) in
-      let oe = pe .onward h refl refl (od .weighed) in
-      let of = pf .onward h refl refl (oe .weighed) in
-      record {
-        gives = record {
-          is = none-left look q s reach m f
-              ∙ of .is []
-              ∙ oe .is (P21 ∷ [])
-              ∙ od .is (P20 ∷ P21 ∷ [])
-              ∙ oc .is (P12 ∷ P20 ∷ P21 ∷ [])
-              ∙ ob .is (P10 ∷ P12 ∷ P20 ∷ P21 ∷ [])
-              ∙ oa .is (P02 ∷ P10 ∷ P12 ∷ P20 ∷ P21 ∷ [])
-              ∙ best-of-all look q s reach m n (h .unimodular);
-        };
-        weighed = of .weighed;
-        few = omega (arith, pa .few, pb .few, pc .few, pd .few, pe .few, pf .few);
-      }
+  round-asked h pa pb pc pd pe pf = record {
+    gives = record {
+      is = none-left look q s reach m (toldRound f)
+          ∙ pf .is []
+          ∙ pe .is (P21 ∷ [])
+          ∙ pd .is (P20 ∷ P21 ∷ [])
+          ∙ pc .is (P12 ∷ P20 ∷ P21 ∷ [])
+          ∙ pb .is (P10 ∷ P12 ∷ P20 ∷ P21 ∷ [])
+          ∙ pa .is (P02 ∷ P10 ∷ P12 ∷ P20 ∷ P21 ∷ [])
+          ∙ best-of-all look q s reach m n (h .unimodular);
+    };
+    weighed = pf .weighed;
+    few = omega (arith, pa .few, pb .few, pc .few, pd .few, pe .few, pf .few);
+  }

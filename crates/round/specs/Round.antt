@@ -1,9 +1,9 @@
 -- A round: what it tells, and what one pair more leaves of it.
 use mathlib.Core.Path.{_≡_}
-use mathlib.Core.Bool.{true, false}
+use mathlib.Core.Bool.{Bool}
 use mathlib.Core.List.{List, [], _∷_}
 use Prim.Native.Nat.{ℕ, _+_, _≤_}
-use lib.IntN.{ℤ, pos}
+use lib.IntN.{pos}
 use lib.Signed.{ltZ}
 use Rattle.rules.specs.declared.Vector.{Vector}
 use Rattle.rules.specs.declared.Look.{Look}
@@ -11,12 +11,12 @@ use Rattle.rules.specs.declared.Triangle.{Triangle}
 use Rattle.rules.specs.declared.Pair.{Pair}
 use Rattle.rules.specs.declared.Choice.{Choice}
 use Rattle.rules.specs.declared.Choice.the-variants.{Nothing, Chosen}
+use Rattle.rules.specs.Vectors.{_⊕_, _⊖_, sphere}
 use Rattle.rules.specs.Solids.{look}
 use Rattle.rules.specs.Asked.{Asked, answered, _>>=_}
-use Rattle.rules.specs.Walk.{first, second, powers, falling, round}
+use Rattle.rules.specs.Walk.{first, second, way, powers, falling, round}
 use Rattle.laws.specs.Triples.{detOf}
-use Rattle.laws.specs.Sphere.{g}
-use Rattle.laws.specs.Choosing.{best}
+use Rattle.laws.specs.Choosing.{better, best}
 use Rattle.space.specs.Bounds.{Bounded}
 use Rattle.falls.specs.declared.Scene.{Scene}
 use Rattle.falls.specs.Tally.{Tally, yes, no, tally, Gives}
@@ -39,51 +39,60 @@ abbrev pub looksOf : Round → ℕ
 looksOf (IsAsked k n) = n
 looksOf (Stopped p n) = n
 
-abbrev pub bestOf : Choice → ℤ → Best
-bestOf c l = record { choice = c; least = l }
+abbrev pub bestOf : Choice → Vector → Best
+bestOf c r = record { choice = c; row = r }
 
--- the pair y with its own g, against the best so far
-unfoldable pub preferred : Best → Pair → ℤ → Best
-preferred k y own = elim (ltZ own (k .least)) [ true ↦ bestOf (Chosen y) own | false ↦ k ]
+-- document 01's row of the candidate of x
+abbrev pub rowOf : Triangle → Pair → Vector
+rowOf m x = m .m0 ⊕ way m x
 
--- least is g of the best so far; it begins above every g
-abbrev pub Least : Triangle → Choice → ℤ → Type 0
-Least m Nothing l = l ≡ pos 10000000
-Least m (Chosen x) l = l ≡ g m x
+-- the candidate of the row e is strictly inside the sphere through the triangle and the candidate of the row c
+abbrev pub nearer : Triangle → Vector → Vector → Bool
+nearer m c e = ltZ (sphere (m .m0 ⊖ m .m1) (m .m0 ⊖ m .m2) c e) (pos 0)
+
+-- r is the row of the best so far
+abbrev pub Weighs : Triangle → Choice → Vector → Type 0
+Weighs m Nothing r = Unit {0}
+Weighs m (Chosen x) r = r ≡ rowOf m x
 
 abbrev pub Weighed : Triangle → Round → Type 0
-Weighed m (IsAsked k n) = Least m (k .choice) (k .least)
+Weighed m (IsAsked k n) = Weighs m (k .choice) (k .row)
 Weighed m (Stopped p n) = Unit {0}
 
-module _ (look : Vector → Look) (q s : Vector) (reach : ℕ) where
-  module _ (m : Triangle) where
-    -- the pairs that are left, after those of which c is the best
-    unfoldable pub remaining : List Pair → Choice → Asked Vector Choice
-    remaining ps c = falling look q s (powers reach) m ps >>= λ fs. answered (best m c fs) []
+-- the pair y against the best so far
+pub record Preferred (m : Triangle) (before : Best) (y : Pair) (r : Best) : Type 0 where
+  pub is : r .choice ≡ better m (before .choice) y
+  pub weighed : Weighs m (r .choice) (r .row)
 
-    -- what the rest of the round gives
-    abbrev pub rest : List Pair → Round → Tally Vector Choice
-    rest ps (IsAsked k n) = tally n (remaining ps (k .choice))
-    rest ps (Stopped p n) = no p n
+-- the pair x is made of a and b
+pub record Made (m : Triangle) (x : Pair) (a b : Vector) : Type 0 where
+  pub first-is : a ≡ first m x
+  pub second-is : b ≡ second m x
 
-    -- with the pair x asked, the rest gives what it gave from before
-    pub record Onward (x : Pair) (before r : Round) : Type 0 where
-      pub is : (ps : List Pair) → rest ps r ≡ rest (x ∷ ps) before
-      pub weighed : Weighed m r
+module _ (look : Vector → Look) (q s : Vector) (reach : ℕ) (m : Triangle) where
+  -- the pairs that are left, after those of which c is the best
+  unfoldable pub remaining : List Pair → Choice → Asked Vector Choice
+  remaining ps c = falling look q s (powers reach) m ps >>= λ fs. answered (best m c fs) []
 
-    pub record RoundAsked (looks : ℕ) (r : Round) : Type 0 where
-      pub gives : Gives looks (round look q s (powers reach) m) (told r)
-      pub weighed : Weighed m r
-      pub few : looksOf r ≤ looks + 3072
+  -- what the rest of the round gives
+  abbrev pub rest : List Pair → Tally Vector Choice → Tally Vector Choice
+  rest ps (yes c n) = tally n (remaining ps c)
+  rest ps (no p n) = no p n
 
-  -- in every triangle whose pair x is made of a and b
-  pub record PairAsked (x : Pair) (a b : Vector) (before r : Round) : Type 0 where
-    pub onward : {m : Triangle} → Sound m → a ≡ first m x → b ≡ second m x → Weighed m before → Onward m x before r
+  -- with the pair x asked, the rest gives what it gave from before
+  pub record PairAsked (x : Pair) (before r : Round) : Type 0 where
+    pub is : (ps : List Pair) → rest ps (told r) ≡ rest (x ∷ ps) (told before)
+    pub weighed : Weighed m r
     pub few : looksOf r ≤ looksOf before + 512
 
+  pub record RoundAsked (looks : ℕ) (r : Round) : Type 0 where
+    pub gives : Gives looks (round look q s (powers reach) m) (told r)
+    pub weighed : Weighed m r
+    pub few : looksOf r ≤ looks + 3072
+
 -- in a scene, with the bytes lent
-abbrev pub PairAskedIn : Scene → List ℕ → Pair → Vector → Vector → Round → Round → Type 0
-PairAskedIn v bytes x a b before r = PairAsked (look (v .solid) bytes) (v .apex) (v .signs) (v .reach) x a b before r
+abbrev pub PairAskedIn : Scene → List ℕ → Triangle → Pair → Round → Round → Type 0
+PairAskedIn v bytes m x before r = PairAsked (look (v .solid) bytes) (v .apex) (v .signs) (v .reach) m x before r
 
 abbrev pub RoundAskedIn : Scene → List ℕ → Triangle → ℕ → Round → Type 0
 RoundAskedIn v bytes m looks r = RoundAsked (look (v .solid) bytes) (v .apex) (v .signs) (v .reach) m looks r

@@ -1,11 +1,10 @@
 // One round: the six pairs, and the choice.
 ghost use mathlib.Core.Path.{_≡_};
 ghost use Prim.Native.Nat.{_≤_};
-ghost use Rattle.rules.specs.Vectors.{dot};
-ghost use Rattle.rules.specs.Walk.{triangle, first, second, with, step};
+ghost use Rattle.rules.specs.Walk.{triangle, first, second, way, with, step};
 ghost use Rattle.space.specs.Bounds.{Bounded};
 ghost use Rattle.falls.specs.Scene.{Ready};
-ghost use Rattle.round.specs.Round.{Sound, preferred, looksOf, PairAskedIn, RoundAskedIn};
+ghost use Rattle.round.specs.Round.{Sound, nearer, Weighs, Weighed, Preferred, Made, looksOf, PairAskedIn, RoundAskedIn};
 use falls::Falls;
 use falls::Scene;
 use rules::Choice;
@@ -13,11 +12,10 @@ use rules::Pair;
 use rules::Triangle;
 use rules::Vector;
 
-// The best falling pair so far, and its g. For the pair (k, l) that is m_l·(m_l - m_k): strictly inside a pair's sphere is a smaller g
-// (`inside-by-g`), so the choice is the first falling pair of least g.
+// The best falling pair so far, and its candidate's row of the determinant; of no pair, any row.
 pub struct Best {
     pub choice: Choice,
-    pub least: i64,
+    pub row: Vector,
 }
 
 // The best so far, or the point outside at which the round stopped; each with the looks so far.
@@ -92,28 +90,59 @@ pub fn step_by(m: Triangle, x: Pair) -> Triangle
     replace(m, x, a)
 }
 
-// ---- the round
+// ---- the choice
 
-// The pair y falls too; b is its m_l, and w its m_l - m_k.
-fn prefer(sofar: Best, y: Pair, b: Vector, w: Vector) -> Best
-    requires { ⌜ Bounded 1000000000 b × Bounded 1000000000 w ⌝ }
-    ensures { λ r. ⌜ r ≡ preferred sofar y (dot b w) ⌝ }
+// Whether the candidate of the row e is strictly inside the sphere through the triangle and the candidate of the row c.
+fn is_nearer(m: Triangle, c: Vector, e: Vector) -> bool
+    requires { ⌜ Sound m × Bounded 3069 c × Bounded 3069 e ⌝ }
+    ensures { λ r. ⌜ r ≡ nearer m c e ⌝ }
 {
-    let g = space::dot(b, w);
-    if g < sofar.least {
-        Best {
-            choice: Choice::Chosen(y),
-            least: g,
+    let m0 = m.m0;
+    let m1 = m.m1;
+    let m2 = m.m2;
+    let a = space::subtract(m0, m1);
+    let b = space::subtract(m0, m2);
+    space::sphere(a, b, c, e) < 0
+}
+
+// The pair y falls too, and w is its way.
+fn prefer(m: Triangle, sofar: Best, y: Pair, w: Vector) -> Best
+    requires { ⌜ Sound m × Weighs m (sofar .choice) (sofar .row) × (w ≡ way m y) ⌝ }
+    ensures { λ r. ⌜ Preferred m sofar y r ⌝ }
+{
+    let m0 = m.m0;
+    let e = space::add(m0, w);
+    let next = Best {
+        choice: Choice::Chosen(y),
+        row: e,
+    };
+    let c = sofar.choice;
+    match c {
+        Choice::Nothing => next,
+        Choice::Chosen(_) => {
+            if is_nearer(m, sofar.row, e) {
+                next
+            } else {
+                sofar
+            }
         }
-    } else {
-        sofar
     }
 }
 
+// ---- the round
+
 // One pair more: x, whose m_k is a and whose m_l is b.
-fn ask_pair(scene: Scene, bytes: &[u8], x: Pair, a: Vector, b: Vector, sofar: Round) -> Round
-    requires { ⌜ Ready scene (now bytes) × Bounded 1023 a × Bounded 1023 b × (looksOf sofar ≤ 1500000) ⌝ }
-    ensures { λ r. ⌜ PairAskedIn scene (now (bytes .entry)) x a b sofar r ⌝ }
+fn ask_pair(
+    scene: Scene,
+    bytes: &[u8],
+    m: Triangle,
+    x: Pair,
+    a: Vector,
+    b: Vector,
+    sofar: Round,
+) -> Round
+    requires { ⌜ Ready scene (now bytes) × Sound m × Made m x a b × Weighed m sofar × (looksOf sofar ≤ 1500000) ⌝ }
+    ensures { λ r. ⌜ PairAskedIn scene (now (bytes .entry)) m x sofar r ⌝ }
 {
     match sofar {
         Round::Stopped(p, n) => Round::Stopped(p, n),
@@ -123,7 +152,7 @@ fn ask_pair(scene: Scene, bytes: &[u8], x: Pair, a: Vector, b: Vector, sofar: Ro
             let u = space::lay(s, w);
             let f = falls::ask_falls(scene, bytes, u, n);
             match f {
-                Falls::Fell(k) => Round::Asked(prefer(best, x, b, w), k),
+                Falls::Fell(k) => Round::Asked(prefer(m, best, x, w), k),
                 Falls::Kept(k) => Round::Asked(best, k),
                 Falls::Stopped(p, k) => Round::Stopped(p, k),
             }
@@ -131,7 +160,7 @@ fn ask_pair(scene: Scene, bytes: &[u8], x: Pair, a: Vector, b: Vector, sofar: Ro
     }
 }
 
-// All six pairs, even after one has fallen. Every g is below 10,000,000.
+// All six pairs, even after one has fallen.
 pub fn ask_round(scene: Scene, bytes: &[u8], m: Triangle, looks: u32) -> Round
     requires { ⌜ Ready scene (now bytes) × Sound m × (looks ≤ 1000000) ⌝ }
     ensures { λ r. ⌜ RoundAskedIn scene (now (bytes .entry)) m looks r ⌝ }
@@ -141,12 +170,20 @@ pub fn ask_round(scene: Scene, bytes: &[u8], m: Triangle, looks: u32) -> Round
     let m2 = m.m2;
     let none = Best {
         choice: Choice::Nothing,
-        least: 10000000,
+        row: m0,
     };
-    let a = ask_pair(scene, bytes, Pair::P01, m0, m1, Round::Asked(none, looks));
-    let b = ask_pair(scene, bytes, Pair::P02, m0, m2, a);
-    let c = ask_pair(scene, bytes, Pair::P10, m1, m0, b);
-    let d = ask_pair(scene, bytes, Pair::P12, m1, m2, c);
-    let e = ask_pair(scene, bytes, Pair::P20, m2, m0, d);
-    ask_pair(scene, bytes, Pair::P21, m2, m1, e)
+    let a = ask_pair(
+        scene,
+        bytes,
+        m,
+        Pair::P01,
+        m0,
+        m1,
+        Round::Asked(none, looks),
+    );
+    let b = ask_pair(scene, bytes, m, Pair::P02, m0, m2, a);
+    let c = ask_pair(scene, bytes, m, Pair::P10, m1, m0, b);
+    let d = ask_pair(scene, bytes, m, Pair::P12, m1, m2, c);
+    let e = ask_pair(scene, bytes, m, Pair::P20, m2, m0, d);
+    ask_pair(scene, bytes, m, Pair::P21, m2, m1, e)
 }
