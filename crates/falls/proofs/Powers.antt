@@ -12,7 +12,8 @@ use Rattle.rules.specs.declared.Look.{Look}
 use Rattle.rules.specs.declared.Look.the-variants.{Filled, Empty, Outside}
 use Rattle.integers.specs.Laws.{*ℤ-distr, *ℤ-idl}
 use Rattle.rules.specs.Vectors.{vector, _⊕_, scale}
-use Rattle.space.specs.Bounds.{Bounded, bounded-is, bounded-wider, bounded-sum}
+use Rattle.laws.specs.Ranges.{Bounded}
+use Rattle.space.specs.Bounds.{bounded-is, bounded-wider, bounded-sum}
 use Rattle.rules.specs.Walk.{seen, lookAt, falls, powers, powersFrom}
 use Rattle.falls.specs.Tally.{Tally, yes, no, tally, Gives}
 use Rattle.falls.specs.Falls.{Fallen, Falling}

@@ -7,13 +7,14 @@ use lib.IntN.{ℤ, pos, negsuc}
 use Rattle.integers.specs.Sizes.{Within, within-is, within-literal}
 use Rattle.rules.specs.declared.Vector.{Vector}
 use Rattle.laws.specs.Frames.{IsSign, Signs}
-use Rattle.space.specs.Bounds.{Bounded, bounded-wider}
-use Rattle.solid.specs.Facts.{inside-cube, cube-bounded}
+use Rattle.laws.specs.Ranges.{Bounded}
+use Rattle.space.specs.Bounds.{bounded-wider}
+use Rattle.solid.specs.Facts.{inside-bounded}
 use Rattle.falls.specs.declared.Scene.{Scene}
 use Rattle.falls.specs.Scene.{Ready}
 
 pub apex-fits : {v : Scene} {bytes : List ℕ} → Ready v bytes → Bounded 1000000000 (v .apex)
-apex-fits h = bounded-wider (cube-bounded (inside-cube (h .permitted) (h .placed))) (lit≤ tt)
+apex-fits h = bounded-wider (inside-bounded (h .permitted) (h .placed)) (lit≤ tt)
 
 sign-bounded : (z : ℤ) → IsSign z → Within 1 z
 sign-bounded z (inl e) = within-is e (within-literal (pos 1))

@@ -9,7 +9,7 @@ use Rattle.rules.specs.declared.Look.{Look}
 use Rattle.rules.specs.Vectors.{scale}
 use Rattle.rules.specs.Solids.{look}
 use Rattle.rules.specs.Walk.{falls, powers, powersFrom}
-use Rattle.space.specs.Bounds.{Bounded}
+use Rattle.laws.specs.Ranges.{Bounded}
 use Rattle.falls.specs.Tally.{Tally, yes, no, Gives}
 use Rattle.falls.specs.declared.Scene.{Scene}
 use Rattle.falls.specs.declared.Falls.{Falls}

@@ -1,6 +1,6 @@
 // Whether a vector falls.
 ghost use Prim.Native.Nat.{_≤_};
-ghost use Rattle.space.specs.Bounds.{Bounded};
+ghost use Rattle.laws.specs.Ranges.{Bounded};
 ghost use Rattle.falls.specs.Scene.{Ready};
 ghost use Rattle.falls.specs.Falls.{FallenIn};
 use rules::Look;

@@ -27,7 +27,7 @@ use Rattle.laws.specs.Parts.{Parts}
 use Rattle.laws.specs.Triples.{All}
 use Rattle.laws.specs.Frames.{Signs}
 use Rattle.laws.specs.Looks.{As}
-use Rattle.laws.specs.Ranges.{Between, InCube, WithinEach, step-within}
+use Rattle.laws.specs.Ranges.{Between, InCube, Bounded, step-within}
 
 -- ---- a look and the box
 seen-inside : (i f : Bool) → isInside (seenAs i f) ≡ i
@@ -103,14 +103,14 @@ pub solid-cube : (solid : Solid) (bytes : List ℕ) → T (permitted solid bytes
 solid-cube solid bytes t p i = in-cube 1023 (box solid) p (solid-sides solid bytes t) (rw (look-inside solid bytes p) at i)
 
 -- ---- each part of every triangle vector is within 1023 along the walk, on both solids: at the beginning, and after a step out of a round that was answered
-pub units-within : All (WithinEach 1023) units
+pub units-within : All (Bounded 1023) units
 units-within = record { of0 = small 1 0 0 tt tt tt; of1 = small 0 1 0 tt tt tt; of2 = small 0 0 1 tt tt tt }
   where
-    small : (a b c : ℕ) → T (leb a 1023) → T (leb b 1023) → T (leb c 1023) → WithinEach 1023 (vector (pos a) (pos b) (pos c))
-    small a b c h k l = record { ofX = record { size = lit≤ h }; ofY = record { size = lit≤ k }; ofZ = record { size = lit≤ l } }
+    small : (a b c : ℕ) → T (leb a 1023) → T (leb b 1023) → T (leb c 1023) → Bounded 1023 (vector (pos a) (pos b) (pos c))
+    small a b c h k l = record { in-x = record { size = lit≤ h }; in-y = record { size = lit≤ k }; in-z = record { size = lit≤ l } }
 
 pub triangle-within : (solid : Solid) (bytes : List ℕ) (q s : Vector) (R : ℕ) (m : Triangle) {c : Choice} {t : List Vector}
     → T (permitted solid bytes) → T (isInside (look solid bytes q)) → Signs s → round (look solid bytes) q s (powers R) m ≡ answered c t
-    → All (WithinEach 1023) m → (x : Pair) → All (WithinEach 1023) (step m x)
+    → All (Bounded 1023) m → (x : Pair) → All (Bounded 1023) (step m x)
 triangle-within solid bytes q s R m ok inside signed e h x =
     step-within (look solid bytes) 1023 (solid-cube solid bytes ok) q s (solid-cube solid bytes ok q inside) signed R m e h x

@@ -37,8 +37,11 @@ pub record Between (M : ℕ) (z : ℤ) : Type 0 where
 abbrev pub InCube : ℕ → Vector → Type 0
 InCube M = Parts (Between M)
 
-abbrev pub WithinEach : ℕ → Vector → Type 0
-WithinEach M = Parts (Within M)
+-- each part at most M in size
+pub record Bounded (M : ℕ) (a : Vector) : Type 0 where
+  pub in-x : Within M (a .x)
+  pub in-y : Within M (a .y)
+  pub in-z : Within M (a .z)
 
 -- ---- what was looked at was inside
 pub each-pair : (P : Pair → Type 0) → Each P pairs → (x : Pair) → P x
@@ -90,17 +93,17 @@ opposite : (M : ℕ) (a b : ℤ) → Within M (b -ℤ a) → Within M (a -ℤ b)
 opposite M a b h = let x = atom a in let y = atom b in goal (search (within-linear, linear)) (omega (arith, fact (search (within-linear, linear)) h))
 
 -- ---- vectors
-turned-within : (M : ℕ) (a b : Vector) → WithinEach M (b ⊖ a) → WithinEach M (a ⊖ b)
+turned-within : (M : ℕ) (a b : Vector) → Bounded M (b ⊖ a) → Bounded M (a ⊖ b)
 unfolding _⊖_
-turned-within M a b h = record { ofX = opposite M (a .x) (b .x) (h .ofX); ofY = opposite M (a .y) (b .y) (h .ofY); ofZ = opposite M (a .z) (b .z) (h .ofZ) }
+turned-within M a b h = record { in-x = opposite M (a .x) (b .x) (h .in-x); in-y = opposite M (a .y) (b .y) (h .in-y); in-z = opposite M (a .z) (b .z) (h .in-z) }
 
 module _ (look : Vector → Look) (M : ℕ) (box : (p : Vector) → T (isInside (look p)) → InCube M p) (q s : Vector) (inside : InCube M q) (signed : Signs s) where
-  pub way-within : (u : Vector) → IsIn look q (lay s u) 1 → WithinEach M u
+  pub way-within : (u : Vector) → IsIn look q (lay s u) 1 → Bounded M u
   unfolding _⊕_ scale lay
   way-within u i =
       let c = box _ i in
-      record { ofX = near M (q .x) (s .x) (u .x) (signed .ofX) (inside .ofX) (c .ofX); ofY = near M (q .y) (s .y) (u .y) (signed .ofY) (inside .ofY) (c .ofY); ofZ = near M (q .z) (s .z) (u .z) (signed .ofZ) (inside .ofZ) (c .ofZ) }
+      record { in-x = near M (q .x) (s .x) (u .x) (signed .ofX) (inside .ofX) (c .ofX); in-y = near M (q .y) (s .y) (u .y) (signed .ofY) (inside .ofY) (c .ofY); in-z = near M (q .z) (s .z) (u .z) (signed .ofZ) (inside .ofZ) (c .ofZ) }
 
   -- after a round that was answered, whatever step is taken
-  pub step-within : (R : ℕ) (m : Triangle) {c : Choice} {t : List Vector} → round look q s (powers R) m ≡ answered c t → All (WithinEach M) m → (x : Pair) → All (WithinEach M) (step m x)
+  pub step-within : (R : ℕ) (m : Triangle) {c : Choice} {t : List Vector} → round look q s (powers R) m ≡ answered c t → All (Bounded M) m → (x : Pair) → All (Bounded M) (step m x)
   step-within R m e h x = all-with h x (turned-within M (first m x) (second m x) (way-within (way m x) (round-in look q s R m e x)))

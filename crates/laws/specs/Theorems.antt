@@ -38,7 +38,7 @@ use Rattle.laws.specs.Stacks as Stacks
 use Rattle.laws.specs.Sphere as Sphere
 use Rattle.laws.specs.Choosing.{best}
 use Rattle.laws.specs.Boxes as Boxes
-use Rattle.laws.specs.Ranges.{WithinEach}
+use Rattle.laws.specs.Ranges.{Bounded}
 use Rattle.laws.specs.Frames.{Signs}
 
 -- ---- the powers are 1, 2, 4, .. up to the first that is at least R
@@ -68,12 +68,12 @@ pub best-is-choice : (m : Triangle) → detOf m ≡ pos 1 → (falling : List Pa
 best-is-choice = Choosing.best-is-choice
 
 -- ---- each part of every triangle vector stays within 1023: it does at the beginning, and if it does before a round that was answered, it does after a step
-pub units-within : All (WithinEach 1023) units
+pub units-within : All (Bounded 1023) units
 units-within = Boxes.units-within
 
 pub triangle-within : (solid : Solid) (bytes : List ℕ) (q s : Vector) (R : ℕ) (m : Triangle) {c : Choice} {t : List Vector}
     → T (permitted solid bytes) → T (isInside (look solid bytes q)) → Signs s → round (look solid bytes) q s (powers R) m ≡ answered c t
-    → All (WithinEach 1023) m → (x : Pair) → All (WithinEach 1023) (step m x)
+    → All (Bounded 1023) m → (x : Pair) → All (Bounded 1023) (step m x)
 triangle-within = Boxes.triangle-within
 
 module _ (solid : Solid) (bytes : List ℕ) (p : Vector) (frame reach : ℤ) where

@@ -20,7 +20,7 @@ use Rattle.rules.specs.declared.Refused.{Refused}
 use Rattle.rules.specs.Vectors.{_⊕_, origin, lay, size}
 use Rattle.rules.specs.Solids.{between, permitted, box, inBox, look}
 use Rattle.solid.specs.Asks.{Permitted}
-use Rattle.solid.specs.Facts.{look-inside}
+use Rattle.laws.specs.Boxes.{look-inside}
 use Rattle.rules.specs.Asked.{Asked, answered, refused}
 use Rattle.rules.specs.Walk.{Stop, stop, signs, powers, normal, units, walk, Found, found, start, rounds}
 use Rattle.rules.specs.Pick.{isInside, pick, answer, pickOf}

@@ -13,7 +13,8 @@ use Rattle.falls.specs.Tally.{Gives}
 use Rattle.falls.specs.declared.Falls.{Falls}
 use Rattle.falls.specs.declared.Falls.the-variants.{Fell, Kept, Stopped}
 use Rattle.laws.specs.Frames.{Signs}
-use Rattle.space.specs.Bounds.{Bounded, bounded-is, bounded-wider, bounded-opposite, bounded-lay}
+use Rattle.laws.specs.Ranges.{Bounded}
+use Rattle.space.specs.Bounds.{bounded-is, bounded-wider, bounded-opposite, bounded-lay}
 use Rattle.falls.specs.Falls.{Fallen, told as toldFalls, looksOf as looksOfFalls}
 use Rattle.falls.proofs.Scenes.{signs-bounded}
 use Rattle.walk.specs.Walk.{refusalOf}

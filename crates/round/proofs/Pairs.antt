@@ -10,7 +10,8 @@ use Rattle.rules.specs.Vectors.{_⊕_, _⊖_, lay}
 use Rattle.rules.specs.Walk.{first, second, way}
 use Rattle.laws.specs.Frames.{Signs}
 use Rattle.laws.specs.Triples.{All, all-first, all-second}
-use Rattle.space.specs.Bounds.{Bounded, bounded-is, bounded-wider, bounded-sum, bounded-difference, bounded-lay}
+use Rattle.laws.specs.Ranges.{Bounded}
+use Rattle.space.specs.Bounds.{bounded-is, bounded-wider, bounded-sum, bounded-difference, bounded-lay}
 use Rattle.falls.proofs.Scenes.{signs-bounded}
 use Rattle.round.specs.Round.{Sound, Weighs, Made}
 

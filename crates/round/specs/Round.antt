@@ -17,7 +17,7 @@ use Rattle.rules.specs.Asked.{Asked, answered, _>>=_}
 use Rattle.rules.specs.Walk.{first, second, way, powers, falling, round}
 use Rattle.laws.specs.Triples.{detOf}
 use Rattle.laws.specs.Choosing.{better, best}
-use Rattle.space.specs.Bounds.{Bounded}
+use Rattle.laws.specs.Ranges.{Bounded}
 use Rattle.falls.specs.declared.Scene.{Scene}
 use Rattle.falls.specs.Tally.{Tally, yes, no, tally, Gives}
 use Rattle.round.specs.declared.Best.{Best}

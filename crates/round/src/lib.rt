@@ -2,7 +2,7 @@
 ghost use mathlib.Core.Path.{_≡_};
 ghost use Prim.Native.Nat.{_≤_};
 ghost use Rattle.rules.specs.Walk.{triangle, first, second, way, with, step};
-ghost use Rattle.space.specs.Bounds.{Bounded};
+ghost use Rattle.laws.specs.Ranges.{Bounded};
 ghost use Rattle.falls.specs.Scene.{Ready};
 ghost use Rattle.round.specs.Round.{Sound, nearer, Weighs, Weighed, Preferred, Made, looksOf, PairAskedIn, RoundAskedIn};
 use falls::Falls;

@@ -2,7 +2,7 @@
 ghost use mathlib.Core.Path.{_≡_};
 ghost use Prim.Native.Nat.{_≤_};
 ghost use Rattle.rules.specs.Solids.{between, permittedWedge, permittedStack, permitted, rowBytes, stackBytes, filledWedge, filledStack, voxel, box, inSide, inBox, filled, look};
-ghost use Rattle.space.specs.Bounds.{Bounded};
+ghost use Rattle.laws.specs.Ranges.{Bounded};
 ghost use Rattle.solid.specs.Asks.{Permitted, Inside, WedgeAsks, sizesPermitted, SizesAsk, VoxelAsks, StackAsks};
 use rules::Look;
 use rules::Solid;

@@ -11,12 +11,8 @@ use lib.IntN.{ℤ, negℤ, _+ℤ_, _-ℤ_, _*ℤ_}
 use Rattle.integers.specs.Sizes.{Within, within-sum, within-product, within-opposite, within-wider}
 use Rattle.integers.specs.Machine.{Reads, Stands, as-it-is, through, through-both, known-stands, machine}
 use Rattle.rules.specs.declared.Vector.{Vector}
+use Rattle.laws.specs.Ranges.{Bounded}
 use Rattle.rules.specs.Vectors.{vector, _⊕_, _⊖_, minus, scale, dot, cross, lay}
-
-pub record Bounded (n : ℕ) (a : Vector) : Type 0 where
-  pub in-x : Within n (a .x)
-  pub in-y : Within n (a .y)
-  pub in-z : Within n (a .z)
 
 -- ---- bounds of compound vectors
 pub bounded-is : {n : ℕ} {a b : Vector} → a ≡ b → Bounded n b → Bounded n a

@@ -18,9 +18,8 @@ use Rattle.rules.specs.Vectors.{det, cross, dot}
 use Rattle.rules.specs.Solids.{look}
 use Rattle.rules.specs.Walk.{Stop, stop, powers, units, step, round, walk}
 use Rattle.laws.specs.Triples.{All, detOf, step-det}
-use Rattle.laws.specs.Ranges.{WithinEach}
 use Rattle.laws.specs.Boxes.{look-inside, units-within, triangle-within}
-use Rattle.space.specs.Bounds.{Bounded}
+use Rattle.laws.specs.Ranges.{Bounded}
 use Rattle.falls.specs.Tally.{Tally, yes, no, Gives}
 use Rattle.falls.proofs.Tallies.{then-yes, then-no, asked-yes, asked-no, at-once, refused-at-once, was-answered}
 use Rattle.falls.specs.declared.Scene.{Scene}
@@ -52,14 +51,8 @@ module _ (look : Vector → Look) (q s : Vector) (ls : List ℕ) (m : Triangle) 
   walk-on left h g = then-yes _ (asked-yes n h) g
 
 -- ---- the triangle stays sound
-bounded-each : {M : ℕ} {a : Vector} → WithinEach M a → Bounded M a
-bounded-each h = record { in-x = h .ofX; in-y = h .ofY; in-z = h .ofZ }
-
-each-bounded : {M : ℕ} {a : Vector} → Bounded M a → WithinEach M a
-each-bounded h = record { ofX = h .in-x; ofY = h .in-y; ofZ = h .in-z }
-
-sound-of : {m : Triangle} → All (WithinEach 1023) m → detOf m ≡ pos 1 → Sound m
-sound-of h d = record { in0 = bounded-each (h .of0); in1 = bounded-each (h .of1); in2 = bounded-each (h .of2); unimodular = d }
+sound-of : {m : Triangle} → All (Bounded 1023) m → detOf m ≡ pos 1 → Sound m
+sound-of h d = record { in0 = h .of0; in1 = h .of1; in2 = h .of2; unimodular = d }
 
 units-sound : Sound units
 unfolding det cross dot
@@ -73,7 +66,7 @@ step-sound {v} {bytes} {m} h o g x =
     let answer = was-answered (round (look (v .solid) bytes) (v .apex) (v .signs) (powers (v .reach)) m) g in
     sound-of
     (triangle-within (v .solid) bytes (v .apex) (v .signs) (v .reach) m (yes-true (h .permitted .is)) (yes-true (look-inside (v .solid) bytes (v .apex) ∙ h .placed .is)) (h .signed) (answer .1)
-    record { of0 = each-bounded (o .in0); of1 = each-bounded (o .in1); of2 = each-bounded (o .in2) } x)
+    record { of0 = o .in0; of1 = o .in1; of2 = o .in2 } x)
     (step-det m x ∙ o .unimodular)
 
 -- ---- the loop: from what holds before a round and what the round promised, to what holds after it

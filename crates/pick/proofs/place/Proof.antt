@@ -4,7 +4,7 @@ use lib.Dec.{lit≤}
 use borrow.Author.Needs.{needs}
 use Rattle.laws.specs.Frames.{signs-are}
 use Rattle.space.specs.Bounds.{bounded-is, bounded-wider}
-use Rattle.solid.specs.Facts.{inside-cube, cube-bounded}
+use Rattle.solid.specs.Facts.{inside-bounded}
 use Rattle.falls.proofs.Scenes.{signs-bounded}
 use Rattle.pick.proofs.Answers.{answering}
 use Rattle.pick.proofs.place.Statement.{statement}
@@ -13,7 +13,7 @@ use Rattle.pick.proofs.place.Tie as tie
 add-requires : tie.Need-add-requires
 add-requires c κs =
     let s = c .before .before .before .before in
-    (bounded-wider (cube-bounded (inside-cube (s .pre .0) record { is = sym (c .before .before .is-inside .ensures) ∙ c .before .if1 .taken })) (lit≤ tt), bounded-is (c .signs-of .ensures) (bounded-wider (signs-bounded (signs-are (s .args .frame))) (lit≤ tt)))
+    (bounded-wider (inside-bounded (s .pre .0) (record { is = sym (c .before .before .is-inside .ensures) ∙ c .before .if1 .taken })) (lit≤ tt), bounded-is (c .signs-of .ensures) (bounded-wider (signs-bounded (signs-are (s .args .frame))) (lit≤ tt)))
 
 begin-requires : tie.Need-begin-requires
 begin-requires c κs =
