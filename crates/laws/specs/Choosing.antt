@@ -8,14 +8,14 @@ use Prim.Native.Nat.{ℕ}
 use native.Mathlib.Omega.{arith}
 use lib.Dec.{T}
 use lib.IntN.{pos}
-use lib.Signed.{_≤ℤ_, _<ℤ_, ltZ, ltZ-yes, ltZ-no}
+use lib.Signed.{_≤ℤ_, _<ℤ_, ltZ-yes, ltZ-no}
 use Rattle.integers.specs.Order.{parts, linear, atom, goal, fact}
 use Rattle.rules.specs.declared.Triangle.{Triangle}
 use Rattle.rules.specs.declared.Pair.{Pair}
 use Rattle.rules.specs.declared.Choice.{Choice}
 use Rattle.rules.specs.declared.Choice.the-variants.{Nothing, Chosen}
 use Rattle.rules.specs.Walk.{determinant, inside, anyInside, firstFree, choice}
-use Rattle.laws.specs.Tests.{is-true, is-false, agree, Each, In}
+use Rattle.laws.specs.Tests.{is-true, is-false, Each, In}
 use Rattle.laws.specs.Triples.{detOf}
 use Rattle.laws.specs.Sphere.{g, determinant-is}
 
@@ -66,10 +66,6 @@ module _ (m : Triangle) (d : detOf m ≡ pos 1) where
   not-inside x y e =
       let a = atom (g m x) in let b = atom (g m y) in
       omega (arith, parts, fact (search linear) (rw (determinant-is m x y d) at (ltZ-no {a = determinant m x y} {b = pos 0} (rw e tt))))
-
-  -- so code compares two values of g instead of forming the determinant
-  pub inside-by-g : (x y : Pair) → inside m x y ≡ ltZ (g m y) (g m x)
-  inside-by-g x y = agree (inside m x y) (ltZ (g m y) (g m x)) (λ t. inside-less x y t .lt) (λ t. less-inside x y (ltZ-yes t))
 
   pub not-inside-itself : (x : Pair) → inside m x x ≡ false
   not-inside-itself x = is-false (inside m x x) (λ t. let h = inside-less x x t in omega (arith, parts))

@@ -15,12 +15,6 @@ pub is-false : (b : Bool) → (T b → ⊥) → b ≡ false
 is-false true h = absurd (h tt)
 is-false false h = refl
 
-pub agree : (a b : Bool) → (T a → T b) → (T b → T a) → a ≡ b
-agree true true f g = refl
-agree true false f g = absurd (f tt)
-agree false true f g = absurd (g tt)
-agree false false f g = refl
-
 pub both : (a b : Bool) → T a → T b → T (a && b)
 both true b h k = k
 both false b h k = absurd h
