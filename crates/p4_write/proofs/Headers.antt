@@ -1,5 +1,4 @@
 -- The plain header, put part by part: after each part there is room for the next, and all parts in a row are the header.
-use mathlib.Core.Path.{_≡_, refl}
 use mathlib.Core.List.{List, [], _∷_, _++_}
 use Prim.Native.Nat.{ℕ}
 use Rattle.rules.specs.Decimals.{decimal}

@@ -1,7 +1,7 @@
 -- The loop over slices, in which what is left to write, laid over what is written, gives the whole; and each way out of the writer.
 use mathlib.Core.Path.{_≡_, refl, sym, ap, subst, _∙_}
 use mathlib.Core.Bool.{Bool, true, false, _&&_}
-use mathlib.Core.List.{List, [], _∷_, _++_, append-assoc}
+use mathlib.Core.List.{List, _++_, append-assoc}
 use Prim.Native.Nat.{ℕ, suc, _+_, _-_, _*_, _≤_, _<_}
 use native.Mathlib.Nat.{zero-add, suc-mul, mul-le-mul}
 use native.Mathlib.Omega.{arith}
@@ -13,9 +13,9 @@ use borrow.Author.Tests.{le-leb, lt-leb}
 use Rattle.rules.specs.declared.Stack.{Stack}
 use Rattle.rules.specs.declared.Writing.{Writing}
 use Rattle.rules.specs.declared.Writing.the-variants.{Written, Unwritten}
-use Rattle.rules.specs.Solids.{between, permittedSize, rowBytes, sliceBytes, stackBytes, permittedStack}
+use Rattle.rules.specs.Solids.{between, permittedSize, sliceBytes, stackBytes, permittedStack}
 use Rattle.rules.specs.P4.{Judged, good, wrong, _>>=_, judge, rows, plainHeader, slices, plain, sizes, writing, writeAnswer, stored, WritePromise}
-use Rattle.text.specs.Put.{Room, Put}
+use Rattle.text.specs.Put.{Put}
 use Rattle.text.specs.Puts.{sets-append, put-then}
 use Rattle.p4_laws.specs.Judging.{pass, fail, both, not-first, not-second}
 use Rattle.p4_laws.specs.Plain.{header-length, slices-none, slices-more, slices-length, slice-rows}
