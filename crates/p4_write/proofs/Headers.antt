@@ -29,8 +29,8 @@ module _ {out : List ℕ} {at w h : ℕ} (R : HeaderRoom out at w h) where
     room-width = room-first (decimal w) after-width (room-then after-magic all A)
 
     module _ {o₂ : List ℕ} {b : ℕ} (B : Put o₁ a (decimal w) o₂ b) where
-      pub room-space : Room o₂ b (32 ∷ [])
-      room-space = room-first (32 ∷ []) after-space (room-then after-width (room-then after-magic all A) B)
+      pub room-space : (x : ℕ) → Room o₂ b (x ∷ [])
+      room-space x = record { fits = room-first (32 ∷ []) after-space (room-then after-width (room-then after-magic all A) B) .fits }
 
       module _ {o₃ : List ℕ} {c : ℕ} (C : Put o₂ b (32 ∷ []) o₃ c) where
         rest : Room o₃ c after-space
