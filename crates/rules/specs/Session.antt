@@ -57,14 +57,14 @@ unfoldable pub within32 : ℤ → Number
 within32 z = elim (between (negsuc 2147483647) z (pos 2147483647)) [ true ↦ Whole z | false ↦ NoNumber ]
 
 -- a number is an optional minus and 1 to 10 digits
-unfoldable pub positive : List ℕ → Number
-positive part = elim (fewDigits part) [ true ↦ within32 (pos (value 0 part)) | false ↦ NoNumber ]
+unfoldable pub signed : (ℕ → ℤ) → List ℕ → Number
+signed sign part = elim (fewDigits part) [ true ↦ within32 (sign (value 0 part)) | false ↦ NoNumber ]
 
-unfoldable pub negative : List ℕ → Number
-negative part = elim (fewDigits part) [ true ↦ within32 (negℤ (pos (value 0 part))) | false ↦ NoNumber ]
+abbrev pub minus : ℕ → ℤ
+minus n = negℤ (pos n)
 
 unfoldable pub number : List ℕ → Number
-number part = elim (eqb (getD part 0 0) 45) [ true ↦ negative (drop 1 part) | false ↦ positive part ]
+number part = elim (eqb (getD part 0 0) 45) [ true ↦ signed minus (drop 1 part) | false ↦ signed pos part ]
 
 -- the first of these fields is a number: go on with it and the others
 abbrev pub ifWhole : Number → (ℤ → Line) → Line
