@@ -10,7 +10,7 @@ use Rattle.rules.specs.Asked.{after, _>>=_}
 use Rattle.rules.specs.Walk.{ensure, sign, signs, seen, asked, powersFrom, powers, normal, determinant, inside, anyInside, firstFree, choice, keep, lookAt, falls, axes, falling, round, walk, found, start, rounds}
 use Rattle.rules.specs.Pick.{isInside, pick, answer, pickOf}
 use Rattle.rules.specs.Decimals.{isDigit, areDigits, value, figure, digits}
-use Rattle.rules.specs.Session.{parts, fewDigits, within32, signed, number, next, onlyThese, question, three, counts, told, reply, replies, session}
+use Rattle.rules.specs.Session.{parts, fewDigits, within32, signed, number, next, onlyThese, question, three, counts, toldAccepted, toldRefused, told, reply, replies, session}
 
 -- the bytes of a text
 abbrev pub bytes : String → List ℕ
@@ -61,5 +61,5 @@ worked-texts :
     ∷ "B\nB\nB\n"
     ∷ "B\nB\n"
     ∷ [])
-unfolding printed _⊕_ _⊖_ minus scale dot cross det sphere lay size between permittedWedge filledWedge inBox look after _>>=_ ensure sign signs seen asked powersFrom powers normal determinant inside anyInside firstFree choice keep lookAt falls axes falling round walk found start rounds isInside pick answer pickOf isDigit areDigits value figure digits parts fewDigits within32 signed number next onlyThese question three counts told reply replies session
+unfolding printed _⊕_ _⊖_ minus scale dot cross det sphere lay size between permittedWedge filledWedge inBox look after _>>=_ ensure sign signs seen asked powersFrom powers normal determinant inside anyInside firstFree choice keep lookAt falls axes falling round walk found start rounds isInside pick answer pickOf isDigit areDigits value figure digits parts fewDigits within32 signed number next onlyThese question three counts toldAccepted toldRefused told reply replies session
 worked-texts = refl
