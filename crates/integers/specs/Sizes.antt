@@ -7,7 +7,8 @@ use Prim.Native.Nat.{ℕ, zero, suc, _+_, _-_, _*_, _≤_}
 use native.Mathlib.Nat as NatL
 use native.Mathlib.Omega.{arith}
 use lib.IntN.{ℤ, pos, negsuc, negℤ, _+ℤ_, _*ℤ_, natAbs}
-use Rattle.integers.specs.Order.{above, below, parts, Difference, Linear, sum-is, opposite-is}
+use lib.Signed.{_≤ℤ_, pos-natAbs, yes-nonNeg}
+use Rattle.integers.specs.Order.{above, below, Difference, Linear, sum-is, opposite-is}
 
 -- a record, so that B and z can be inferred
 pub record Within (B : ℕ) (z : ℤ) : Type 0 where
@@ -25,7 +26,14 @@ parts-within {x = negsuc n} h = record { size = omega arith }
 pub ruleset sizes = (within-parts, parts-within)
 
 abbrev pub within-linear : {B : ℕ} {x : ℤ} → Difference x → Linear (Within B x)
-within-linear {B} a = record { Told = (a .plus - a .minus) + (a .minus - a .plus) ≤ B; tell = λ h. omega (arith, sizes); ask = λ h. omega (arith, sizes) }
+within-linear {B} a = record {
+  Told = (a .plus - a .minus) + (a .minus - a .plus) ≤ B;
+  tell = λ h. omega (arith, sizes);
+  ask = λ h. omega (arith, sizes);
+}
+
+pub natural : {x : ℤ} → pos 0 ≤ℤ x → pos (natAbs x) ≡ x
+natural {x} h = pos-natAbs x (yes-nonNeg h)
 
 -- ---- sizes of compound numbers
 pub within-wider : {m n : ℕ} {x : ℤ} → Within m x → m ≤ n → Within n x
@@ -40,7 +48,7 @@ within-opposite {x} h = omega (arith, sizes, opposite-is x)
 pub within-sum : {m n : ℕ} {x y : ℤ} → Within m x → Within n y → Within (m + n) (x +ℤ y)
 within-sum {x} {y} h k = omega (arith, sizes, sum-is x y)
 
-opposite-size : (x : ℤ) → natAbs (negℤ x) ≡ natAbs x
+pub opposite-size : (x : ℤ) → natAbs (negℤ x) ≡ natAbs x
 opposite-size (pos zero) = refl
 opposite-size (pos (suc n)) = refl
 opposite-size (negsuc n) = refl

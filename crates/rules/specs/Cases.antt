@@ -1,85 +1,115 @@
--- Document 01's cases W1 to W8, with the triangles where it gives them, and U1 and U2: one statement over a list, by evaluation.
+-- Document 01's cases W1 to W8, with the triangles where it gives them, U1 and U2, and lines of a session that need care: one statement over a list, by evaluation.
 use mathlib.Core.Path.{_≡_, refl}
+use mathlib.Core.Bool.{false}
 use mathlib.Core.List.{List, [], _∷_, map}
 use Prim.Native.Nat.{ℕ}
+use Prim.Native.Char.{code}
+use Prim.Native.String.{String, [] as nothing, _∷_ as _then_}
 use lib.IntN.{ℤ, pos, negsuc}
-use lib.Ieee.{binary32, round}
-use mathlib.Core.Bool.{false}
-use Rattle.rules.specs.declared.Vector.{Vector}
+use lib.Ieee.{binary32, round as rounded}
 use Rattle.rules.specs.declared.Solid.the-variants.{Wedge as IsWedge}
 use Rattle.rules.specs.declared.Triangle.{Triangle}
 use Rattle.rules.specs.declared.Pick.{Pick}
 use Rattle.rules.specs.declared.Pick.the-variants.{Accepted, Refused}
+use Rattle.rules.specs.declared.Line.{Line}
+use Rattle.rules.specs.declared.Line.the-variants.{Asks, OtherForm}
 use Rattle.rules.specs.declared.Display.{Display}
-use Rattle.rules.specs.declared.Display.the-variants.{Lit, Unlit}
+use Rattle.rules.specs.declared.Display.the-variants.{Lit}
 use Rattle.rules.specs.Vectors.{vector, _⊕_, _⊖_, minus, scale, dot, cross, det, sphere, lay, size}
 use Rattle.rules.specs.Solids.{between, permittedWedge, filledWedge, inBox, look}
 use Rattle.rules.specs.Asked.{after, _>>=_}
-use Rattle.rules.specs.Walk.{ensure, sign, signs, seen, asked, powersFrom, powers, triangle, normal, determinant, inside, anyInside, firstFree, choice, keep, lookAt, falls, axes, falling, round as roundOf, walk, found, start, rounds}
+use Rattle.rules.specs.Walk.{ensure, sign, signs, seen, asked, powersFrom, powers, triangle, normal, determinant, inside, anyInside, firstFree, choice, keep, lookAt, falls, axes, falling, round, walk, found, start, rounds}
 use Rattle.rules.specs.Pick.{isInside, pick, answer, pickOf}
+use Rattle.rules.specs.Decimals.{isDigit, areDigits, value, figure, digits}
 use Rattle.rules.specs.Display.{largest, sizeOf, component, permittedNormal, light, display}
+use Rattle.rules.specs.Session.{parts, fewDigits, within32, signed, number, next, onlyThese, question, three, counts, toldAccepted, toldRefused, told, reply, replies, session}
 
--- a line of the wedge's table: what it answers, or only the triangle vectors it ends with; or whole numbers to display
+-- a session; a line of it, for the triangle vectors that its pick ends with; whole numbers to display
 data Case : Type 0 where
-  line corners : ℤ → ℤ → ℤ → ℤ → Vector → ℤ → ℤ → Case
-  shown : ℤ → ℤ → ℤ → Case
+  prints corners : String → Case
+  shows : ℤ → ℤ → ℤ → Case
 
 data Told : Type 0 where
-  N : Vector → ℕ → ℕ → Told
-  R : ℕ → Vector → ℕ → ℕ → Told
-  M : Triangle → Told
-  U : Display → Told
+  text : List ℕ → Told
+  vectors : Triangle → Told
+  shown : Display → Told
+  none : Told
 
-told : Pick → Told
-told (Accepted a) = N (a .normal) (a .steps) (a .looks)
-told (Refused r) = R (r .number) (r .place) (r .steps) (r .looks)
+-- the bytes of a text
+bytes : String → List ℕ
+bytes nothing = []
+bytes (c then more) = code c ∷ bytes more
 
-toldCorners : Pick → Told
-toldCorners (Accepted a) = M (a .triangle)
-toldCorners (Refused r) = R (r .number) (r .place) (r .steps) (r .looks)
+vectorsOf : Pick → Told
+vectorsOf (Accepted a) = vectors (a .triangle)
+vectorsOf (Refused r) = none
+
+cornersOf : Line → Told
+cornersOf (Asks q) = vectorsOf (pickOf (IsWedge (q .wedge)) [] (q .p) (q .frame) (q .reach))
+cornersOf OtherForm = none
 
 run : Case → Told
-run (line a b c h p frame reach) = told (pickOf (IsWedge record { a = a; b = b; c = c; h = h }) [] p frame reach)
-run (corners a b c h p frame reach) = toldCorners (pickOf (IsWedge record { a = a; b = b; c = c; h = h }) [] p frame reach)
-run (shown x y z) = U (display x y z)
+run (prints input) = text (session (bytes input))
+run (corners line) = cornersOf (question (bytes line))
+run (shows x y z) = shown (display x y z)
 
-at : ℕ → Vector
-at n = vector (pos n) (pos n) (pos n)
+-- what the list expects: a text, the vectors (1,0,0), (-1,1,0), (-2,-1,1), or sizes over 32768
+says : String → Told
+says output = text (bytes output)
 
--- sizes over 32768
+ends : Told
+ends = vectors (triangle (vector (pos 1) (pos 0) (pos 0)) (vector (negsuc 0) (pos 1) (pos 0)) (vector (negsuc 1) (negsuc 0) (pos 1)))
+
 over : ℕ → ℕ → ℕ → Told
-over a b c = U (Lit record { x = round binary32 false a 32768; y = round binary32 false b 32768; z = round binary32 false c 32768 })
-
-ends : Triangle
-ends = triangle (vector (pos 1) (pos 0) (pos 0)) (vector (negsuc 0) (pos 1) (pos 0)) (vector (negsuc 1) (negsuc 0) (pos 1))
+over a b c = shown (Lit record { x = rounded binary32 false a 32768; y = rounded binary32 false b 32768; z = rounded binary32 false c 32768 })
 
 worked-cases :
     map run
-    (line (pos 1) (pos 2) (pos 5) (pos 808) (at 100) (pos 0) (pos 8)
-    ∷ line (pos 1) (pos 2) (pos 5) (pos 801) (at 100) (pos 0) (pos 8)
-    ∷ line (pos 1) (pos 2) (pos 5) (pos 808) (at 100) (pos 0) (pos 7)
-    ∷ line (pos 1) (pos 1) (pos 1) (pos 303) (at 100) (pos 0) (pos 3)
-    ∷ line (pos 1) (pos 2) (pos 5) (pos 808) (at 1) (pos 0) (pos 8)
-    ∷ line (pos 0) (pos 1) (pos 1) (pos 202) (at 100) (pos 0) (pos 8)
-    ∷ line (pos 1) (pos 1) (pos 1) (pos 3) (at 0) (pos 0) (pos 3)
-    ∷ line (negsuc 0) (pos 2) (pos 5) (pos 608) (at 100) (pos 1) (pos 8)
-    ∷ corners (pos 1) (pos 2) (pos 5) (pos 808) (at 100) (pos 0) (pos 8)
-    ∷ corners (pos 1) (pos 2) (pos 5) (pos 801) (at 100) (pos 0) (pos 8)
-    ∷ shown (pos 1) (pos 2) (pos 5)
-    ∷ shown (pos 1) (pos 1) (pos 1)
+    (prints "1 2 5 808 100 100 100 0 8\n"
+    ∷ prints "1 2 5 801 100 100 100 0 8\n"
+    ∷ prints "1 2 5 808 100 100 100 0 7\n"
+    ∷ prints "1 1 1 303 100 100 100 0 3\n"
+    ∷ prints "1 2 5 808 1 1 1 0 8\n"
+    ∷ prints "0 1 1 202 100 100 100 0 8\n"
+    ∷ prints "1 1 1 3 0 0 0 0 3\n"
+    ∷ prints "-1 2 5 608 100 100 100 1 8\n"
+    ∷ corners "1 2 5 808 100 100 100 0 8"
+    ∷ corners "1 2 5 801 100 100 100 0 8"
+    ∷ shows (pos 1) (pos 2) (pos 5)
+    ∷ shows (pos 1) (pos 1) (pos 1)
+    ∷ prints ""
+    ∷ prints "\n\n"
+    ∷ prints "\n1 2 5 808 1 1 1 0 8"
+    ∷ prints "01 2 5 0000000808 100 100 100 -0 8\n"
+    ∷ prints "1 2 5 00000000808 100 100 100 0 8\n"
+    ∷ prints "1 2 5 808 2147483647 -2147483648 1 0 8\n"
+    ∷ prints "1 2 5 808 2147483648 0 1 0 8\n1 2 5 808 -2147483649 0 1 0 8"
+    ∷ prints "1 2 5 808 1  1 1 0 8\n 1 2 5 808 1 1 1 0 8\n1 2 5 808 1 1 1 0 8 \n"
+    ∷ prints "1 2 5 808 1 1 1 0 8\r\n+1 2 5 808 1 1 1 0 8\n1 2 5 808 1 1 1 - 8\n"
+    ∷ prints "1 2 5 808 1 1 1 0\n1 2 5 808 1 1 1 0 8 9\n"
     ∷ [])
-    ≡ N (vector (pos 1) (pos 2) (pos 5)) 5 116
-    ∷ N (vector (pos 1) (pos 2) (pos 5)) 5 144
-    ∷ R 9 (at 101) 4 92
-    ∷ N (at 1) 0 23
-    ∷ R 6 (at 2) 0 2
-    ∷ R 7 (vector (pos 100) (pos 101) (pos 101)) 0 6
-    ∷ R 8 (vector (negsuc 0) (pos 3) (pos 1)) 0 6
-    ∷ N (vector (negsuc 0) (pos 2) (pos 5)) 5 116
-    ∷ M ends
-    ∷ M ends
+    ≡ says "N 1 2 5 5 116\n"
+    ∷ says "N 1 2 5 5 144\n"
+    ∷ says "R 9 101 101 101 4 92\n"
+    ∷ says "N 1 1 1 0 23\n"
+    ∷ says "R 6 2 2 2 0 2\n"
+    ∷ says "R 7 100 101 101 0 6\n"
+    ∷ says "R 8 -1 3 1 0 6\n"
+    ∷ says "N -1 2 5 5 116\n"
+    ∷ ends
+    ∷ ends
     ∷ over 5982 11965 29912
     ∷ over 18918 18918 18918
+    ∷ says ""
+    ∷ says "B\nB\n"
+    ∷ says "B\nR 6 2 2 2 0 2\n"
+    ∷ says "N 1 2 5 5 116\n"
+    ∷ says "B\n"
+    ∷ says "R 4 2147483647 -2147483648 1 0 0\n"
+    ∷ says "B\nB\n"
+    ∷ says "B\nB\nB\n"
+    ∷ says "B\nB\nB\n"
+    ∷ says "B\nB\n"
     ∷ []
-unfolding run told toldCorners at over ends _⊕_ _⊖_ minus scale dot cross det sphere lay size between permittedWedge filledWedge inBox look after _>>=_ ensure sign signs seen asked powersFrom powers normal determinant inside anyInside firstFree choice keep lookAt falls axes falling roundOf walk found start rounds isInside pick answer pickOf largest sizeOf component permittedNormal light display
+unfolding run bytes cornersOf vectorsOf says ends over _⊕_ _⊖_ minus scale dot cross det sphere lay size between permittedWedge filledWedge inBox look after _>>=_ ensure sign signs seen asked powersFrom powers normal determinant inside anyInside firstFree choice keep lookAt falls axes falling round walk found start rounds isInside pick answer pickOf isDigit areDigits value figure digits parts fewDigits within32 signed number next onlyThese question three counts toldAccepted toldRefused told reply replies session largest sizeOf component permittedNormal light display
 worked-cases = refl

@@ -5,7 +5,7 @@ pub mod Asked
 pub mod Walk
 pub mod Pick
 pub mod Decimals
+pub mod P4
 pub mod Display
 pub mod Session
 pub mod Cases
-pub mod Texts

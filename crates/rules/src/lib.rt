@@ -1,6 +1,7 @@
 // The types that document 01's definitions, in `specs/`, and the code above them share. There is no code here.
 
-// A vector, a voxel or a place.
+// A vector, a voxel or a place. The panel's C interface has it as it is.
+#[repr(C)]
 pub struct Vector {
     pub x: i32,
     pub y: i32,
@@ -91,6 +92,18 @@ pub struct Light {
 pub enum Display {
     Lit(Light),
     Unlit(u32),
+}
+
+// ---- the answers of P4's reader and writer; a refusal has its number and the number returned
+
+pub enum Reading {
+    Read(Stack),
+    Unread(u32, usize),
+}
+
+pub enum Writing {
+    Written(usize),
+    Unwritten(u32, usize),
 }
 
 // ---- the session's lines

@@ -4,12 +4,12 @@ use mathlib.Core.Bool.{true, false}
 use Prim.Native.Nat.{zero, suc}
 use native.Mathlib.Omega.{arith}
 use lib.Dec.{T}
-use lib.IntN.{ℤ, pos, negsuc, negℤ, natAbs, _-ℤ_, +ℤ-idl}
+use lib.IntN.{ℤ, pos, negsuc, negℤ, natAbs, _-ℤ_}
 use lib.Signed.{nonNeg, yes-nonNeg, ltZ}
 use mir.Syntax.{w32, w64}
 use mir.Val.{Fits, SFits, toZ, ofZ}
 use mir.Facts.{fits-natAbs, toZ-ofZ}
-use Rattle.integers.specs.Machine.{machine, typed, tested, value, told, lt-yes, lt-no}
+use Rattle.integers.specs.Machine.{machine, typed, value, told, lt-yes, lt-no}
 use Rattle.integers.specs.Order.{parts}
 
 abbrev Unsigned : ℤ → Type 0
@@ -32,16 +32,16 @@ module _ {z : ℤ} (s : SFits w32 z) where
   opposite = toZ w64 (ofZ w64 (pos 0 -ℤ toZ w64 (ofZ w64 bits)))
 
   opposite-is : opposite ≡ negℤ z
-  opposite-is = value (search (machine, typed) depth 30 fits 5000) tt ∙ +ℤ-idl (negℤ z)
+  opposite-is = value (search (machine, typed) depth 30 fits 5000) tt
 
   pub positive-size : natAbs bits ≡ natAbs z
   positive-size = ap natAbs (toZ-ofZ s)
 
   pub positive-fits : ltZ bits (pos 0) ≡ false → Unsigned bits
-  positive-fits e = subst Unsigned (sym (toZ-ofZ s)) (yes-nonNeg (lt-no z (pos 0) (told e (search (tested, typed) depth 30 fits 5000) tt)), fits-natAbs tt s)
+  positive-fits e = subst Unsigned (sym (toZ-ofZ s)) (yes-nonNeg (lt-no z (pos 0) (told e (search (machine, typed) depth 30 fits 5000) tt)), fits-natAbs tt s)
 
   pub negative-size : natAbs opposite ≡ natAbs z
   negative-size = ap natAbs opposite-is ∙ opposite-size z
 
   pub negative-fits : ltZ bits (pos 0) ≡ true → Unsigned opposite
-  negative-fits e = subst Unsigned (sym opposite-is) (opposite-positive z (told e (search (tested, typed) depth 30 fits 5000) tt), subst (Fits w32) (sym (opposite-size z)) (fits-natAbs tt s))
+  negative-fits e = subst Unsigned (sym opposite-is) (opposite-positive z (told e (search (machine, typed) depth 30 fits 5000) tt), subst (Fits w32) (sym (opposite-size z)) (fits-natAbs tt s))

@@ -1,0 +1,116 @@
+-- The box of a solid: a look is outside exactly outside the box, and the box of a permitted solid lies in a cube of side 1024, a stack's of side 256.
+use mathlib.Core.Path.{_≡_, refl}
+use mathlib.Core.Bool.{Bool, true, false, not, _&&_}
+use mathlib.Core.List.{List}
+use Prim.Native.Nat.{ℕ, suc}
+use native.Mathlib.Omega.{arith}
+use lib.Dec.{T, leb, lit≤}
+use lib.IntN.{ℤ, pos}
+use lib.ListN.{length}
+use lib.Signed.{_≤ℤ_, _<ℤ_, leZ, ltZ, leZ-yes, ltZ-yes}
+use Rattle.integers.specs.Order.{parts}
+use Rattle.rules.specs.declared.Vector.{Vector}
+use Rattle.rules.specs.declared.Stack.{Stack}
+use Rattle.rules.specs.declared.Solid.{Solid}
+use Rattle.rules.specs.declared.Solid.the-variants.{Wedge as IsWedge, Stack as IsStack}
+use Rattle.rules.specs.declared.Look.the-variants.{Outside}
+use Rattle.rules.specs.declared.Triangle.{Triangle}
+use Rattle.rules.specs.declared.Pair.{Pair}
+use Rattle.rules.specs.declared.Choice.{Choice}
+use Rattle.rules.specs.Vectors.{vector}
+use Rattle.rules.specs.Asked.{answered}
+use Rattle.rules.specs.Walk.{powers, units, step, round}
+use Rattle.rules.specs.Solids.{between, permittedSize, stackBytes, permittedStack, permitted, box, inSide, inBox, filled, seenAs, look}
+use Rattle.rules.specs.Pick.{isInside}
+use Rattle.laws.specs.Tests.{first-of, second-of}
+use Rattle.laws.specs.Parts.{Parts}
+use Rattle.laws.specs.Triples.{All}
+use Rattle.laws.specs.Frames.{Signs}
+use Rattle.laws.specs.Looks.{As}
+use Rattle.laws.specs.Ranges.{Between, InCube, WithinEach, step-within}
+
+-- ---- a look and the box
+seen-inside : (i f : Bool) → isInside (seenAs i f) ≡ i
+unfolding isInside
+seen-inside false f = refl
+seen-inside true true = refl
+seen-inside true false = refl
+
+pub look-inside : (solid : Solid) (bytes : List ℕ) (p : Vector) → isInside (look solid bytes p) ≡ inBox (box solid) p
+unfolding look
+look-inside solid bytes p = seen-inside (inBox (box solid) p) (filled solid bytes p)
+
+pub outside-box : (solid : Solid) (bytes : List ℕ) (p : Vector) → look solid bytes p ≡ Outside → T (not (inBox (box solid) p))
+unfolding isInside
+outside-box solid bytes p e = rw (← look-inside solid bytes p, e) tt
+
+seen-told : (i f b : Bool) → seenAs i f ≡ As b → T i × (f ≡ b)
+seen-told false f true e = absurd (let z : _≡_ {A = ℕ} 0 1 = cc in omega arith)
+seen-told false f false e = absurd (let z : _≡_ {A = ℕ} 0 1 = cc in omega arith)
+seen-told true true true e = (tt, refl)
+seen-told true true false e = absurd (let z : _≡_ {A = ℕ} 0 1 = cc in omega arith)
+seen-told true false true e = absurd (let z : _≡_ {A = ℕ} 0 1 = cc in omega arith)
+seen-told true false false e = (tt, refl)
+
+pub look-told : (solid : Solid) (bytes : List ℕ) (p : Vector) (b : Bool) → look solid bytes p ≡ As b → T (inBox (box solid) p) × (filled solid bytes p ≡ b)
+unfolding look
+look-told solid bytes p b e = seen-told (inBox (box solid) p) (filled solid bytes p) b e
+
+-- ---- cubes
+pub between-yes : (low x high : ℤ) → T (between low x high) → (low ≤ℤ x) × (x ≤ℤ high)
+unfolding between
+between-yes low x high t = (leZ-yes (first-of (leZ low x) (leZ x high) t), leZ-yes (second-of (leZ low x) (leZ x high) t))
+
+in-side : (M : ℕ) (side x : ℤ) → side ≤ℤ pos (suc M) → T (inSide side x) → Between M x
+in-side M side x h t =
+    let low : pos 0 ≤ℤ x = leZ-yes (first-of (leZ (pos 0) x) (ltZ x side) t) in
+    let high : x <ℤ side = ltZ-yes (second-of (leZ (pos 0) x) (ltZ x side) t) in
+    record { low = low; high = omega (arith, parts) }
+
+pub in-cube : (M : ℕ) (sides p : Vector) → Parts (λ side. side ≤ℤ pos (suc M)) sides → T (inBox sides p) → InCube M p
+unfolding inBox
+in-cube M sides p h t =
+    let yz = second-of (inSide (sides .x) (p .x)) (inSide (sides .y) (p .y) && inSide (sides .z) (p .z)) t in
+    record {
+      ofX = in-side M (sides .x) (p .x) (h .ofX) (first-of (inSide (sides .x) (p .x)) (inSide (sides .y) (p .y) && inSide (sides .z) (p .z)) t);
+      ofY = in-side M (sides .y) (p .y) (h .ofY) (first-of (inSide (sides .y) (p .y)) (inSide (sides .z) (p .z)) yz);
+      ofZ = in-side M (sides .z) (p .z) (h .ofZ) (second-of (inSide (sides .y) (p .y)) (inSide (sides .z) (p .z)) yz);
+    }
+
+stack-sides : (k : Stack) (bytes : List ℕ) → T (permittedStack k bytes) → Parts (λ side. side ≤ℤ pos 256) (box (IsStack k))
+unfolding permittedStack
+stack-sides k bytes t =
+    let d = permittedSize (k .depth) && leb (stackBytes k) (length bytes) in
+    let hd = second-of (permittedSize (k .width)) (permittedSize (k .height) && d) t in
+    record {
+      ofX = between-yes (pos 1) (k .width) (pos 256) (first-of (permittedSize (k .width)) (permittedSize (k .height) && d) t) .1;
+      ofY = between-yes (pos 1) (k .height) (pos 256) (first-of (permittedSize (k .height)) d hd) .1;
+      ofZ = between-yes (pos 1) (k .depth) (pos 256) (first-of (permittedSize (k .depth)) (leb (stackBytes k) (length bytes)) (second-of (permittedSize (k .height)) d hd)) .1;
+    }
+
+pub stack-cube : (k : Stack) (bytes : List ℕ) → T (permittedStack k bytes) → (p : Vector) → T (isInside (look (IsStack k) bytes p)) → InCube 255 p
+stack-cube k bytes t p i = in-cube 255 (box (IsStack k)) p (stack-sides k bytes t) (rw (look-inside (IsStack k) bytes p) at i)
+
+wider : {side : ℤ} → side ≤ℤ pos 256 → side ≤ℤ pos 1024
+wider {side} h = omega (arith, parts)
+
+solid-sides : (solid : Solid) (bytes : List ℕ) → T (permitted solid bytes) → Parts (λ side. side ≤ℤ pos 1024) (box solid)
+solid-sides (IsWedge w) bytes t = record { ofX = leZ-yes tt; ofY = leZ-yes tt; ofZ = leZ-yes tt }
+solid-sides (IsStack k) bytes t = let h = stack-sides k bytes t in record { ofX = wider (h .ofX); ofY = wider (h .ofY); ofZ = wider (h .ofZ) }
+
+-- both solids
+pub solid-cube : (solid : Solid) (bytes : List ℕ) → T (permitted solid bytes) → (p : Vector) → T (isInside (look solid bytes p)) → InCube 1023 p
+solid-cube solid bytes t p i = in-cube 1023 (box solid) p (solid-sides solid bytes t) (rw (look-inside solid bytes p) at i)
+
+-- ---- each part of every triangle vector is within 1023 along the walk, on both solids: at the beginning, and after a step out of a round that was answered
+pub units-within : All (WithinEach 1023) units
+units-within = record { of0 = small 1 0 0 tt tt tt; of1 = small 0 1 0 tt tt tt; of2 = small 0 0 1 tt tt tt }
+  where
+    small : (a b c : ℕ) → T (leb a 1023) → T (leb b 1023) → T (leb c 1023) → WithinEach 1023 (vector (pos a) (pos b) (pos c))
+    small a b c h k l = record { ofX = record { size = lit≤ h }; ofY = record { size = lit≤ k }; ofZ = record { size = lit≤ l } }
+
+pub triangle-within : (solid : Solid) (bytes : List ℕ) (q s : Vector) (R : ℕ) (m : Triangle) {c : Choice} {t : List Vector}
+    → T (permitted solid bytes) → T (isInside (look solid bytes q)) → Signs s → round (look solid bytes) q s (powers R) m ≡ answered c t
+    → All (WithinEach 1023) m → (x : Pair) → All (WithinEach 1023) (step m x)
+triangle-within solid bytes q s R m ok inside signed e h x =
+    step-within (look solid bytes) 1023 (solid-cube solid bytes ok) q s (solid-cube solid bytes ok q inside) signed R m e h x

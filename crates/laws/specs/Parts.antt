@@ -1,0 +1,69 @@
+-- Vectors part by part: what holds of each part, and the laws of `dot` that hold of shut vectors.
+use mathlib.Core.Path.{_≡_}
+use mathlib.Core.List.{List, [], _∷_}
+use lib.IntN.{ℤ, pos, negℤ, _+ℤ_, _-ℤ_, _*ℤ_}
+use lib.Signed.{_≤ℤ_}
+use Rattle.integers.specs.Reify.{byring, sides}
+use Rattle.integers.specs.Laws.{*ℤ-idl}
+use Rattle.rules.specs.declared.Vector.{Vector}
+use Rattle.rules.specs.Vectors.{_⊕_, _⊖_, minus, scale, dot, unit0, unit1, unit2}
+
+-- P of each part
+pub record Parts (P : ℤ → Type 0) (a : Vector) : Type 0 where
+  pub ofX : P (a .x)
+  pub ofY : P (a .y)
+  pub ofZ : P (a .z)
+
+pub vector-eq : {a b : Vector} → a .x ≡ b .x → a .y ≡ b .y → a .z ≡ b .z → a ≡ b
+vector-eq p q r = λ i. record { x = p i; y = q i; z = r i }
+
+-- no part negative; each part at least 1
+abbrev pub NonNegative : Vector → Type 0
+NonNegative = Parts (λ z. pos 0 ≤ℤ z)
+
+abbrev pub Positive : Vector → Type 0
+Positive = Parts (λ z. pos 1 ≤ℤ z)
+
+-- the parts of two vectors and of three, the atoms of an identity
+abbrev pub of2 : Vector → Vector → List ℤ
+of2 a b = a .x ∷ a .y ∷ a .z ∷ b .x ∷ b .y ∷ b .z ∷ []
+
+abbrev pub of3 : Vector → Vector → Vector → List ℤ
+of3 a b c = a .x ∷ a .y ∷ a .z ∷ of2 b c
+
+-- ---- products with a vector
+pub dot-sum : (n a b : Vector) → dot n (a ⊕ b) ≡ dot n a +ℤ dot n b
+unfolding dot _⊕_
+dot-sum n a b = byring (of3 n a b) (search sides depth 40 fits 5000) tt
+
+pub dot-difference : (n a b : Vector) → dot n (a ⊖ b) ≡ dot n a -ℤ dot n b
+unfolding dot _⊖_
+dot-difference n a b = byring (of3 n a b) (search sides depth 40 fits 5000) tt
+
+pub dot-minus : (n a : Vector) → dot n (minus a) ≡ negℤ (dot n a)
+unfolding dot minus
+dot-minus n a = byring (of2 n a) (search sides depth 40 fits 5000) tt
+
+pub dot-scale : (n a : Vector) (l : ℤ) → dot n (scale l a) ≡ l *ℤ dot n a
+unfolding dot scale
+dot-scale n a l = byring (l ∷ of2 n a) (search sides depth 40 fits 5000) tt
+
+pub scale-dot : (n a : Vector) (l : ℤ) → dot (scale l n) a ≡ l *ℤ dot n a
+unfolding dot scale
+scale-dot n a l = byring (l ∷ of2 n a) (search sides depth 40 fits 5000) tt
+
+pub dot-unit0 : (n : Vector) → dot n unit0 ≡ n .x
+unfolding dot
+dot-unit0 n = byring (n .x ∷ n .y ∷ n .z ∷ []) (search sides depth 40 fits 5000) tt
+
+pub dot-unit1 : (n : Vector) → dot n unit1 ≡ n .y
+unfolding dot
+dot-unit1 n = byring (n .x ∷ n .y ∷ n .z ∷ []) (search sides depth 40 fits 5000) tt
+
+pub dot-unit2 : (n : Vector) → dot n unit2 ≡ n .z
+unfolding dot
+dot-unit2 n = byring (n .x ∷ n .y ∷ n .z ∷ []) (search sides depth 40 fits 5000) tt
+
+pub scale-one : (a : Vector) → scale (pos 1) a ≡ a
+unfolding scale
+scale-one a = vector-eq (*ℤ-idl (a .x)) (*ℤ-idl (a .y)) (*ℤ-idl (a .z))

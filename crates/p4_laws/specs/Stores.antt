@@ -1,0 +1,29 @@
+-- Runs of bytes stored in a list.
+use mathlib.Core.Path.{_≡_, refl, sym, ap, _∙_}
+use mathlib.Core.List.{List, [], _∷_, _++_}
+use Prim.Native.Nat.{ℕ, suc, _+_, _≤_, _<_}
+use native.Mathlib.Numerals.{add-one}
+use native.Mathlib.Omega.{arith}
+use lib.ListN.{length, getD, drop, set}
+use lib.Seq.{sets, set-comm, drop-cons}
+
+pub drop-here : (s : List ℕ) (i : ℕ) → i < length s → drop i s ≡ getD s i 0 ∷ drop (i + 1) s
+drop-here s i h = rw add-one (drop-cons s i 0 h)
+
+-- two runs in a row are one
+pub sets-append : (l : List ℕ) (i : ℕ) (a b : List ℕ) → sets l i (a ++ b) ≡ sets (sets l i a) (i + length a) b
+sets-append l i [] b = ap (λ (k : ℕ). sets l k b) (omega arith)
+sets-append l i (x ∷ a) b =
+    sets-append (set l i x) (suc i) a b ∙ ap (λ (k : ℕ). sets (sets (set l i x) (suc i) a) k b) (omega arith)
+
+-- a byte and a run behind it, in either order
+pub set-sets : (l : List ℕ) (i j : ℕ) (x : ℕ) (b : List ℕ) → i < j → sets (set l i x) j b ≡ set (sets l j b) i x
+set-sets l i j x [] h = refl
+set-sets l i j x (y ∷ b) h =
+    ap (λ (m : List ℕ). sets m (suc j) b) (set-comm l i j x y (omega arith)) ∙ set-sets (set l j y) i (suc j) x b (omega arith)
+
+-- and so two runs
+pub sets-swap : (l : List ℕ) (i j : ℕ) (a b : List ℕ) → i + length a ≤ j → sets (sets l i a) j b ≡ sets (sets l j b) i a
+sets-swap l i j [] b h = refl
+sets-swap l i j (x ∷ a) b h =
+    sets-swap (set l i x) (suc i) j a b (omega arith) ∙ ap (λ (m : List ℕ). sets m (suc i) a) (set-sets l i j x b (omega arith))

@@ -1,0 +1,8 @@
+use borrow.Author.Needs.{needs}
+use native.Mathlib.Omega.{arith}
+use Rattle.p4_rows.proofs.Clearing.{shifts}
+use Rattle.p4_rows.proofs.cut_byte.Statement.{statement}
+use Rattle.p4_rows.proofs.cut_byte.Tie as tie
+
+pub cut-byte-spec : {M : Type 1} → statement M
+cut-byte-spec = tie.close (tie.spec (λ c. search needs) (λ c. search needs) (λ c. search needs) (λ c. search needs) (λ c. search (shifts, arith)))

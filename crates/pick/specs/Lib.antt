@@ -1,0 +1,4 @@
+-- What the start and the pick promise.
+pub mod Start
+pub mod Pick
+pub mod Promises
