@@ -1,0 +1,4 @@
+-- `Theorems` is the front door.
+pub mod Room
+pub mod Lengths
+pub mod Theorems
