@@ -4,14 +4,15 @@ use mathlib.Core.Logic.{_≢_}
 use mathlib.Core.Bool.{Bool, true, false, _&&_}
 use mathlib.Core.List.{List, [], _∷_}
 use Prim.Native.Nat.{ℕ, zero, suc, _-_, _≤_, _<_, _^_}
+use native.Mathlib.Nat.{zero-add}
 use native.Mathlib.Omega.{arith}
 use lib.Dec.{leb, eqb}
-use lib.IntN.{ℤ, pos, negsuc, negℤ, _-ℤ_, +ℤ-idl}
+use lib.IntN.{ℤ, pos, negsuc, _-ℤ_}
 use lib.Signed.{leZ, mag}
 use lib.ListN.{length, take, drop, getD, length-drop}
 use lib.Seq.{take-all}
 use borrow.Author.Tests.{le-leb, lt-leb, eq-eqb, ne-eqb}
-use mir.Syntax.{w32, w64}
+use mir.Syntax.{w32}
 use mir.Val.{SFits, toZ, ofZ}
 use mir.Facts.{toZ-pos, toZ-ofZ}
 use Rattle.rules.specs.declared.Number.{Number}
@@ -55,24 +56,29 @@ unfolding between
 opposite-outside zero h = absurd (omega arith)
 opposite-outside (suc k) h = ap (λ (t : Bool). t && true) (lt-leb k 2147483647 (omega arith))
 
-module _ {v : ℕ} (h : v ≤ 2147483648) where
+less-one : (k : ℕ) → negsuc 0 -ℤ pos k ≡ negsuc k
+less-one zero = refl
+less-one (suc j) = ap (λ (n : ℕ). negsuc (suc n)) (zero-add j)
+
+opposite-is : (v : ℕ) → v ≢ 0 → v ≤ 2147483648 → negsuc 0 -ℤ toZ w32 (v - 1) ≡ minus v
+opposite-is zero n h = absurd (n refl)
+opposite-is (suc k) n h =
+    let low : suc k - 1 < 2 ^ 31 = omega arith in
+    let same : suc k - 1 ≡ k = omega arith in
+    ap (λ (z : ℤ). negsuc 0 -ℤ z) (toZ-pos w32 low ∙ ap pos same) ∙ less-one k
+
+pub negative-zero : {v : ℕ} {d : Digits} → v ≡ 0 → d ≡ Value v → Whole (pos 0) ≡ signedOf minus d
+negative-zero {v} z e = sym (ap (signedOf minus) (e ∙ ap Value z) ∙ inside (pos 0) (opposite-inside 0 (omega arith)))
+
+module _ {v : ℕ} (n : v ≢ 0) (h : v ≤ 2147483648) where
   abbrev opposite : ℤ
-  opposite = pos 0 -ℤ toZ w64 v
+  opposite = negsuc 0 -ℤ toZ w32 (v - 1)
 
-  opposite-is : opposite ≡ minus v
-  opposite-is = let low : v < 2 ^ 63 = omega arith in +ℤ-idl (negℤ (toZ w64 v)) ∙ ap negℤ (toZ-pos w64 low)
+  pub opposite-fits : SFits w32 opposite
+  opposite-fits = subst (SFits w32) (sym (opposite-is v n h)) (record { sfits = opposite-small v h })
 
-  pub opposite-fits : SFits w64 opposite
-  opposite-fits = let s = opposite-small v h in subst (SFits w64) (sym opposite-is) (record { sfits = omega arith })
-
-  back : toZ w64 (ofZ w64 opposite) ≡ minus v
-  back = toZ-ofZ opposite-fits ∙ opposite-is
-
-  pub cast-fits : SFits w32 (toZ w64 (ofZ w64 opposite))
-  cast-fits = subst (SFits w32) (sym back) (record { sfits = opposite-small v h })
-
-  pub negative-whole : {d : Digits} → d ≡ Value v → Whole (toZ w32 (ofZ w32 (toZ w64 (ofZ w64 opposite)))) ≡ signedOf minus d
-  negative-whole e = ap Whole (toZ-ofZ cast-fits ∙ back) ∙ sym (ap (signedOf minus) e ∙ inside (minus v) (opposite-inside v h))
+  pub negative-whole : {d : Digits} → d ≡ Value v → Whole (toZ w32 (ofZ w32 opposite)) ≡ signedOf minus d
+  negative-whole e = ap Whole (toZ-ofZ opposite-fits ∙ opposite-is v n h) ∙ sym (ap (signedOf minus) e ∙ inside (minus v) (opposite-inside v h))
 
 pub negative-outside : {v : ℕ} {d : Digits} → 2147483648 < v → d ≡ Value v → NoNumber ≡ signedOf minus d
 negative-outside {v} h e = sym (ap (signedOf minus) e ∙ outside (minus v) (opposite-outside v h))

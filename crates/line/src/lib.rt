@@ -93,9 +93,12 @@ fn negative(d: Digits) -> Number
 {
     match d {
         Digits::Value(v) => {
+            if v == 0 {
+                return Number::Whole(0);
+            }
             if v <= 2147483648 {
-                let z = 0 - (v as i64);
-                return Number::Whole(z as i32);
+                let below = (v - 1) as i32;
+                return Number::Whole(-1 - below);
             }
             Number::NoNumber
         }

@@ -38,12 +38,17 @@ fn put_replies(out: &mut [u8], text: &[u8]) -> usize
 {
     let mut from = 0;
     let mut at = 0;
-    while from < text.len() {
-        let end = line::find(text, from, b'\n');
+    let mut end = line::find(text, 0, b'\n');
+    while end < text.len() {
         at = put_reply(out, at, &text[from..end]);
         from = end + 1;
+        end = line::find(text, from, b'\n');
     }
-    at
+    // A last line without LF counts if not empty.
+    if from == text.len() {
+        return at;
+    }
+    put_reply(out, at, &text[from..])
 }
 
 // What is printed stands at the front of the lent output, which is long enough for every input.

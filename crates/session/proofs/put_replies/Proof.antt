@@ -1,17 +1,17 @@
--- `put_replies` answers line by line. What is left of the text is the measure.
+-- `put_replies` answers line by line. What is left of the text behind the line's end is the measure.
 use Prim.Native.Nat.{_-_}
 use native.Mathlib.Omega.{arith}
 use borrow.Author.Needs.{needs}
 use lib.ListN.{length}
-use Rattle.session.proofs.Loop.{Replying, replying-starts, ready, replying-more, replying-ends}
+use Rattle.session.proofs.Loop.{AtLine, at-line-starts, ready-inner, at-line-more, ready-last, ends-last, ends-empty}
 use Rattle.session.proofs.put_replies.Statement.{statement}
 use Rattle.session.proofs.put_replies.Tie as tie
 
 abbrev Inv-loop : tie.InvT-loop
-Inv-loop out₀ text from₀ at₀ out from at = Replying out₀ text out at from
+Inv-loop out₀ text from₀ at₀ end₀ out from at end = AtLine out₀ text out at from end
 
 abbrev μ-loop : tie.MeasureT-loop
-μ-loop out₀ text from₀ at₀ out from at = length text - from
+μ-loop out₀ text from₀ at₀ end₀ out from at end = length text - end
 
 pub put-replies-spec : {M : Type 1} → statement M
 put-replies-spec =
@@ -19,14 +19,21 @@ put-replies-spec =
     (tie.spec
     Inv-loop
     μ-loop
-    (λ c. replying-starts)
-    (λ c κs. omega arith)
+    (λ c κs. search needs)
+    (λ c. search at-line-starts)
     (λ c. search needs)
     (λ c. search needs)
     (λ c. search needs)
-    (λ c κs. search ready)
+    (λ c κs. search ready-inner)
+    (λ c. search needs)
+    (λ c κs. search needs)
+    (λ c. search needs)
+    (λ c. search at-line-more)
+    (λ c. search needs)
+    (λ c. search ends-empty)
     (λ c. search needs)
     (λ c. search needs)
-    (λ c. search replying-more)
     (λ c. search needs)
-    (λ c. search replying-ends))
+    (λ c κs. search ready-last)
+    (λ c. search needs)
+    (λ c. search ends-last))

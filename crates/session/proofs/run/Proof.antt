@@ -10,7 +10,7 @@ use Rattle.session.proofs.run.Statement.{statement}
 use Rattle.session.proofs.run.Tie as tie
 
 slice-aggregate-put-replies : tie.Need-slice-aggregate-put-replies
-slice-aggregate-put-replies c = sym (length-take-le 65536 (c .before .before .before .before .args .input .now) (omega arith))
+slice-aggregate-put-replies c = sym (length-take-le _ (c .before .before .before .before .args .input .now) (omega arith))
 
 put-replies-requires : tie.Need-put-replies-requires
 put-replies-requires c κs = let room : 327680 ≤ length (c .before .before .before .before .args .out .now) = omega arith in search fits-cut
