@@ -1,9 +1,9 @@
 -- What each function writes, in one piece, and how long it is: a number of 32 bits has ten digits at most, and a minus and a space at most before them.
-use mathlib.Core.Path.{_≡_, sym, ap, subst, _∙_}
+use mathlib.Core.Path.{_≡_}
 use mathlib.Core.List.{List, [], _∷_, _++_}
-use Prim.Native.Nat.{ℕ, suc, _+_, _≤_, _<_}
+use Prim.Native.Nat.{ℕ, _+_, _≤_}
 use native.Mathlib.Omega.{arith}
-use lib.IntN.{ℤ, pos, natAbs}
+use lib.IntN.{ℤ, pos}
 use lib.Signed.{natAbs-le}
 use lib.ListN.{length, length-append}
 use mir.Syntax.{w32}

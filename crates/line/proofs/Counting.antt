@@ -1,8 +1,8 @@
 -- The loop of `read_digits`: the digits left say the number behind those that were read, and i digits say less than 10^i.
 use mathlib.Core.Path.{_≡_, refl, sym, ap, _∙_}
 use mathlib.Core.Bool.{Bool, true, false, _&&_}
-use mathlib.Core.List.{List, [], _∷_}
-use Prim.Native.Nat.{ℕ, suc, _+_, _-_, _*_, _^_, _≤_, _<_}
+use mathlib.Core.List.{List, _∷_}
+use Prim.Native.Nat.{ℕ, _+_, _-_, _*_, _^_, _≤_, _<_}
 use native.Mathlib.Nat.{pow-suc, pow-le-pow-right}
 use native.Mathlib.Numerals.{add-one}
 use native.Mathlib.Omega.{arith}
@@ -14,7 +14,6 @@ use mir.Val.{Fits}
 use borrow.Author.Tests.{le-leb, lt-leb, leb-true}
 use Rattle.rules.specs.Decimals.{isDigit, areDigits, value}
 use Rattle.rules.specs.Session.{fewDigits}
-use Rattle.line.specs.declared.Digits.{Digits}
 use Rattle.line.specs.declared.Digits.the-variants.{Value, NoDigits}
 use Rattle.line.specs.Reading.{digitsOf, DigitsRead}
 

@@ -17,7 +17,7 @@ use Rattle.rules.specs.declared.Number.the-variants.{Whole, NoNumber}
 use Rattle.rules.specs.declared.Line.{Line}
 use Rattle.rules.specs.Session.{fields, always, ifWhole, next}
 use Rattle.line.specs.declared.Field.the-variants.{Holds, NoField}
-use Rattle.line.specs.Reading.{between, Found, NumberRead, rest, FieldAt}
+use Rattle.line.specs.Reading.{stretch, Found, NumberRead, rest, FieldAt}
 
 module _ (line : List ℕ) (at : ℕ) where
   pub rest-some : at ≤ length line → rest line at ≡ fields (drop at line)
@@ -33,18 +33,18 @@ unfolding next
 past-end {line} {at} h = record { is = λ k. ap (λ (fs : List (List ℕ)). next fs k) (rest-none line at h) }
 
 module _ {line : List ℕ} {at end : ℕ} (h : at ≤ length line) (F : Found line at 32 end) where
-  split : rest line at ≡ between line at end ∷ rest line (end + 1)
+  split : rest line at ≡ stretch line at end ∷ rest line (end + 1)
   split = rest-some line at h ∙ by (ltb end (length line)) refl
     where
-      by : (t : Bool) → ltb end (length line) ≡ t → fields (drop at line) ≡ between line at end ∷ rest line (end + 1)
+      by : (t : Bool) → ltb end (length line) ≡ t → fields (drop at line) ≡ stretch line at end ∷ rest line (end + 1)
       by true e =
           let l = ltb-true end (length line) e in
-          F .at-mark l always ∙ ap (λ (fs : List (List ℕ)). between line at end ∷ fs) (sym (rest-some line (end + 1) (omega arith)))
+          F .at-mark l always ∙ ap (λ (fs : List (List ℕ)). stretch line at end ∷ fs) (sym (rest-some line (end + 1) (omega arith)))
       by false e =
           let l = ltb-false end (length line) e in
-          F .at-end l always ∙ ap (λ (fs : List (List ℕ)). between line at end ∷ fs) (sym (rest-none line (end + 1) (omega arith)))
+          F .at-end l always ∙ ap (λ (fs : List (List ℕ)). stretch line at end ∷ fs) (sym (rest-none line (end + 1) (omega arith)))
 
-  module _ {n : Number} (N : NumberRead (between line at end) n) where
+  module _ {n : Number} (N : NumberRead (stretch line at end) n) where
     first : (k : ℤ → List (List ℕ) → Line) → next (rest line at) k ≡ ifWhole n (λ z. k z (rest line (end + 1)))
     unfolding next
     first k = ap (λ (fs : List (List ℕ)). next fs k) split ∙ ap (λ (m : Number). ifWhole m (λ z. k z (rest line (end + 1)))) (sym (N .is))

@@ -10,7 +10,7 @@ use Rattle.rules.specs.declared.Vector.{Vector}
 use Rattle.rules.specs.declared.Question.{Question}
 use Rattle.rules.specs.declared.Line.{Line}
 use Rattle.rules.specs.declared.Line.the-variants.{Asks, OtherForm}
-use Rattle.rules.specs.Session.{parts, always, fields, onlyThese, question}
+use Rattle.rules.specs.Session.{parts, always, onlyThese, question}
 use Rattle.line.specs.declared.Three.{Three}
 use Rattle.line.specs.declared.Three.the-variants.{Values, NoThree}
 use Rattle.line.specs.Reading.{rest, nextThree, withThree, ThreeAt, asked, Asking, LineRead}

@@ -6,9 +6,8 @@ use mathlib.Core.List.{List, [], _∷_}
 use Prim.Native.Nat.{ℕ, zero, suc, _-_, _≤_, _<_, _^_}
 use native.Mathlib.Nat.{zero-add}
 use native.Mathlib.Omega.{arith}
-use lib.Dec.{leb, eqb}
 use lib.IntN.{ℤ, pos, negsuc, _-ℤ_}
-use lib.Signed.{leZ, mag}
+use lib.Signed.{mag}
 use lib.ListN.{length, take, drop, getD, length-drop}
 use lib.Seq.{take-all}
 use borrow.Author.Tests.{le-leb, lt-leb, eq-eqb, ne-eqb}
@@ -20,7 +19,7 @@ use Rattle.rules.specs.declared.Number.the-variants.{Whole, NoNumber}
 use Rattle.rules.specs.Solids.{between}
 use Rattle.rules.specs.Session.{fewDigits, within32, signed, minus, number}
 use Rattle.line.specs.declared.Digits.{Digits}
-use Rattle.line.specs.declared.Digits.the-variants.{Value, NoDigits}
+use Rattle.line.specs.declared.Digits.the-variants.{Value}
 use Rattle.line.specs.Reading.{digitsOf, DigitsRead, NumberRead, signedOf}
 
 -- ---- within 32 bits

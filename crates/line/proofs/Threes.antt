@@ -1,24 +1,20 @@
 -- Each way out of `read_three` and of `read_line`: fields one after another, and three such groups.
-use mathlib.Core.Path.{_≡_, refl, sym, ap, subst, _∙_}
-use mathlib.Core.List.{List, [], _∷_}
-use Prim.Native.Nat.{ℕ, _+_, _≤_, _<_}
+use mathlib.Core.Path.{_≡_, sym, ap, _∙_}
+use mathlib.Core.List.{List}
+use Prim.Native.Nat.{ℕ, _<_}
 use lib.IntN.{ℤ}
 use lib.Signed.{mag}
-use lib.ListN.{length}
 use mir.Syntax.{w32}
 use mir.Val.{toZ, ofZ}
 use Rattle.integers.specs.Machine.{back}
 use Rattle.rules.specs.declared.Vector.{Vector}
 use Rattle.rules.specs.declared.Line.{Line}
-use Rattle.rules.specs.declared.Line.the-variants.{Asks, OtherForm}
 use Rattle.rules.specs.Vectors.{vector}
-use Rattle.rules.specs.Session.{fields, next, onlyThese, question}
+use Rattle.rules.specs.Session.{next}
 use Rattle.line.specs.declared.Field.{Field}
 use Rattle.line.specs.declared.Field.the-variants.{Holds, NoField}
-use Rattle.line.specs.declared.Three.{Three}
 use Rattle.line.specs.declared.Three.the-variants.{Values, NoThree}
-use Rattle.line.specs.Reading.{rest, withField, FieldAt, nextThree, withThree, ThreeAt, asked, LineRead}
-use Rattle.line.proofs.Fields.{rest-some, rest-none}
+use Rattle.line.specs.Reading.{rest, withField, FieldAt, nextThree, ThreeAt}
 
 module _ {line : List ℕ} {at : ℕ} {f : Field} (F : FieldAt line at f) where
   pub no-first : f ≡ NoField → ThreeAt line at NoThree

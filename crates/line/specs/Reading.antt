@@ -8,10 +8,10 @@ use lib.IntN.{ℤ}
 use lib.ListN.{length, take, drop}
 use Rattle.rules.specs.declared.Vector.{Vector}
 use Rattle.rules.specs.declared.Number.{Number}
-use Rattle.rules.specs.declared.Number.the-variants.{Whole, NoNumber}
+use Rattle.rules.specs.declared.Number.the-variants.{NoNumber}
 use Rattle.rules.specs.declared.Question.{Question}
 use Rattle.rules.specs.declared.Line.{Line}
-use Rattle.rules.specs.declared.Line.the-variants.{Asks, OtherForm}
+use Rattle.rules.specs.declared.Line.the-variants.{OtherForm}
 use Rattle.rules.specs.Vectors.{vector}
 use Rattle.rules.specs.Decimals.{value}
 use Rattle.rules.specs.Session.{parts, fewDigits, within32, number, fields, next, question}
@@ -22,16 +22,16 @@ use Rattle.line.specs.declared.Field.the-variants.{Holds, NoField}
 use Rattle.line.specs.declared.Three.{Three}
 use Rattle.line.specs.declared.Three.the-variants.{Values, NoThree}
 
--- from place `at` up to place `end`
-abbrev pub between : List ℕ → ℕ → ℕ → List ℕ
-between s at end = take (end - at) (drop at s)
+-- the bytes from place `at` up to place `end`
+abbrev pub stretch : List ℕ → ℕ → ℕ → List ℕ
+stretch s at end = take (end - at) (drop at s)
 
 -- ---- the part that begins at place `at` ends at place `end`: at a mark, or with the text
 pub record Found (s : List ℕ) (at mark end : ℕ) : Type 0 where
   pub from : at ≤ end
   pub within : end ≤ length s
-  pub at-mark : end < length s → (last : List ℕ → List (List ℕ)) → parts last mark [] (drop at s) ≡ between s at end ∷ parts last mark [] (drop (end + 1) s)
-  pub at-end : length s ≤ end → (last : List ℕ → List (List ℕ)) → parts last mark [] (drop at s) ≡ last (between s at end)
+  pub at-mark : end < length s → (last : List ℕ → List (List ℕ)) → parts last mark [] (drop at s) ≡ stretch s at end ∷ parts last mark [] (drop (end + 1) s)
+  pub at-end : length s ≤ end → (last : List ℕ → List (List ℕ)) → parts last mark [] (drop at s) ≡ last (stretch s at end)
 
 -- ---- numbers
 abbrev pub digitsOf : List ℕ → Digits

@@ -1,18 +1,17 @@
 -- The loop of `put_replies`: the replies to the lines that are left, laid over what is written, give the whole.
-use mathlib.Core.Path.{_≡_, refl, sym, ap, subst, _∙_}
+use mathlib.Core.Path.{_≡_, refl, sym, ap, _∙_}
 use mathlib.Core.Logic.{_≢_}
 use mathlib.Core.List.{List, [], _∷_, _++_}
-use Prim.Native.Nat.{ℕ, zero, suc, _+_, _-_, _*_, _≤_, _<_, min, max}
+use Prim.Native.Nat.{ℕ, _+_, _-_, _*_, _≤_, _<_}
 use native.Mathlib.Nat.{le-refl}
 use native.Mathlib.Omega.{arith}
-use lib.ListN.{length, take, drop, length-append, length-take, length-drop, drop-of-length-le}
+use lib.ListN.{length, drop, length-append, length-take, length-drop, drop-of-length-le}
 use lib.Seq.{sets}
 use Rattle.rules.specs.Session.{parts, ifNotEmpty, lines, question, reply, replies}
-use Rattle.text.specs.Put.{Put}
 use Rattle.text.specs.Puts.{sets-append, put-length}
-use Rattle.line.specs.Reading.{between, Found}
+use Rattle.line.specs.Reading.{stretch, Found}
 use Rattle.answer.specs.Wrote.{Wrote}
-use Rattle.session.specs.Room.{most, Ready, Replied, Fits}
+use Rattle.session.specs.Printing.{Ready, Replied, Enough}
 
 pub record Replying (first text out : List ℕ) (at from : ℕ) : Type 0 where
   pub same : length out ≡ length first
@@ -38,18 +37,18 @@ no-lines : (text : List ℕ) (from : ℕ) → length text ≤ from → lines (dr
 unfolding parts
 no-lines text from h = ap (parts ifNotEmpty 10 []) (drop-of-length-le text h)
 
-long : (text : List ℕ) (from end : ℕ) → end ≤ length text → length (between text from end) ≡ end - from
+long : (text : List ℕ) (from end : ℕ) → end ≤ length text → length (stretch text from end) ≡ end - from
 long text from end h = simp (length-take, length-drop) (omega arith)
 
 module _ {text : List ℕ} {from end : ℕ} (F : Found text from 10 end) where
-  to-mark : end < length text → Next text from (between text from end) (end + 1)
+  to-mark : end < length text → Next text from (stretch text from end) (end + 1)
   to-mark h =
       let g = F .from in
       let n = long text from end (F .within) in
       record { split = F .at-mark h ifNotEmpty; forward = omega arith; within = omega arith; covers = omega arith }
 
   -- a last line without LF counts if not empty
-  to-end : length text ≤ end → from < length text → Next text from (between text from (length text)) (length text)
+  to-end : length text ≤ end → from < length text → Next text from (stretch text from (length text)) (length text)
   to-end h k =
       let w = F .within in
       let e : end ≡ length text = omega arith in
@@ -57,16 +56,16 @@ module _ {text : List ℕ} {from end : ℕ} (F : Found text from 10 end) where
       record {
         split =
             F .at-end h ifNotEmpty
-            ∙ ap (λ (z : ℕ). ifNotEmpty (between text from z)) e
-            ∙ kept (between text from (length text)) (omega arith)
-            ∙ ap (λ (ls : List (List ℕ)). between text from (length text) ∷ ls) (sym (no-lines text (length text) (le-refl (length text))));
+            ∙ ap (λ (z : ℕ). ifNotEmpty (stretch text from z)) e
+            ∙ kept (stretch text from (length text)) (omega arith)
+            ∙ ap (λ (ls : List (List ℕ)). stretch text from (length text) ∷ ls) (sym (no-lines text (length text) (le-refl (length text))));
         forward = k;
         within = le-refl (length text);
         covers = omega arith;
       }
 
 module _ {first text out line : List ℕ} {at from behind : ℕ} (R : Replying first text out at from) (N : Next text from line behind) where
-  room-for : Fits first text → Ready out at line
+  room-for : Enough first text → Ready out at line
   room-for f =
       let a = N .forward in
       let b = N .within in
@@ -117,10 +116,10 @@ pub at-line-starts : {out text : List ℕ} {end : ℕ} → Found text 0 10 end �
 at-line-starts F = record { replying = replying-starts; found = F }
 
 module _ {first text out : List ℕ} {at from end : ℕ} (A : AtLine first text out at from end) where
-  pub ready-inner : end < length text → Fits first text → Ready out at (between text from end)
+  pub ready-inner : end < length text → Enough first text → Ready out at (stretch text from end)
   ready-inner h = room-for (A .replying) (to-mark (A .found) h)
 
-  pub at-line-more : {after : List ℕ} {next after-end : ℕ} → end < length text → Replied out at (between text from end) after next → Found text (end + 1) 10 after-end
+  pub at-line-more : {after : List ℕ} {next after-end : ℕ} → end < length text → Replied out at (stretch text from end) after next → Found text (end + 1) 10 after-end
       → AtLine first text after next (end + 1) after-end
   at-line-more h P F = record { replying = onward (A .replying) (to-mark (A .found) h) P; found = F }
 
@@ -128,11 +127,11 @@ module _ {first text out : List ℕ} {at from end : ℕ} (A : AtLine first text 
   ends-empty k = replying-ends (A .replying) (omega arith)
 
   module _ (h : length text ≤ end) (k : from ≢ length text) where
-    last : Next text from (between text from (length text)) (length text)
+    last : Next text from (stretch text from (length text)) (length text)
     last = let f = A .found .from in let w = A .found .within in to-end (A .found) h (omega arith)
 
-    pub ready-last : Fits first text → Ready out at (between text from (length text))
+    pub ready-last : Enough first text → Ready out at (stretch text from (length text))
     ready-last = room-for (A .replying) last
 
-    pub ends-last : {after : List ℕ} {next : ℕ} → Replied out at (between text from (length text)) after next → Wrote (5 * length text) first 0 (replies (lines text)) after next
+    pub ends-last : {after : List ℕ} {next : ℕ} → Replied out at (stretch text from (length text)) after next → Wrote (5 * length text) first 0 (replies (lines text)) after next
     ends-last P = replying-ends (onward (A .replying) last P) (le-refl (length text))

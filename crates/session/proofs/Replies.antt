@@ -1,9 +1,8 @@
 -- Each way out of `put_reply`.
-use mathlib.Core.Path.{_≡_, refl, sym, ap, subst, _∙_}
+use mathlib.Core.Path.{_≡_, sym, ap, subst, _∙_}
 use mathlib.Core.List.{List, [], _∷_}
-use Prim.Native.Nat.{ℕ, _+_, _*_, _≤_, _<_, max}
+use Prim.Native.Nat.{ℕ}
 use native.Mathlib.Omega.{arith}
-use lib.ListN.{length}
 use mir.Syntax.{w32}
 use mir.Val.{SFits, toZ, ofZ}
 use mir.Facts.{toZ-ofZ}
@@ -17,7 +16,7 @@ use Rattle.rules.specs.Session.{question, told, reply}
 use Rattle.text.specs.Put.{Put}
 use Rattle.line.specs.Reading.{LineRead}
 use Rattle.answer.specs.Wrote.{Space, Wrote}
-use Rattle.session.specs.Room.{Answers, most, Ready, Replied}
+use Rattle.session.specs.Printing.{Answers, most, Ready, Replied}
 use Rattle.session.specs.Lengths.{asks-long}
 
 module _ {q : Question} {a : Pick} where

@@ -1,14 +1,14 @@
 -- Both ways out of `run`: the input is cut at 65,536 bytes, or is taken whole.
-use mathlib.Core.Path.{_≡_, refl, sym, ap, subst, _∙_}
-use mathlib.Core.List.{List, [], _∷_, _++_}
-use Prim.Native.Nat.{ℕ, _+_, _*_, _≤_, _<_}
+use mathlib.Core.Path.{_≡_, refl, sym, ap, _∙_}
+use mathlib.Core.List.{List, _++_}
+use Prim.Native.Nat.{ℕ, _*_, _≤_, _<_}
 use native.Mathlib.Nat.{zero-add}
 use native.Mathlib.Omega.{arith}
 use lib.ListN.{length, take, drop, length-take}
 use lib.Seq.{sets, sets-eq, take-all}
-use Rattle.rules.specs.Session.{bytesRead, lines, replies, session, SessionPromise}
+use Rattle.rules.specs.Session.{bytesRead, lines, replies, session}
 use Rattle.answer.specs.Wrote.{Wrote}
-use Rattle.session.specs.Room.{Fits, Ran}
+use Rattle.session.specs.Printing.{Enough, Ran}
 
 -- what was written for the bytes read is the session
 ran : {input text before after : List ℕ} {count : ℕ} → text ≡ bytesRead input → 5 * length text ≤ length before
@@ -29,7 +29,7 @@ ran {input} {before} e room W =
       bound = let p = W .put .past in omega arith;
     }
 
-pub fits-cut : (input : List ℕ) {out : List ℕ} → 327680 ≤ length out → Fits out (take 65536 input)
+pub fits-cut : (input : List ℕ) {out : List ℕ} → 327680 ≤ length out → Enough out (take 65536 input)
 fits-cut input room = let l = length-take 65536 input in record { short = omega arith; room = omega arith }
 
 module _ {input before after : List ℕ} {count : ℕ} (room : 327680 ≤ length before) where

@@ -1,6 +1,6 @@
 -- A line that asks has 17 bytes at least: nine numbers of a digit each and eight spaces. Fields weigh what they are long, and one each for what parts them;
 -- every number that is read makes the rest lighter by two.
-use mathlib.Core.Path.{_≡_, refl, sym, ap, _∙_}
+use mathlib.Core.Path.{_≡_, refl, ap, _∙_}
 use mathlib.Core.Bool.{Bool, true, false}
 use mathlib.Core.List.{List, [], _∷_, _++_}
 use Prim.Native.Nat.{ℕ, suc, _+_, _≤_}
@@ -14,7 +14,7 @@ use Rattle.rules.specs.declared.Number.the-variants.{Whole, NoNumber}
 use Rattle.rules.specs.declared.Question.{Question}
 use Rattle.rules.specs.declared.Line.{Line}
 use Rattle.rules.specs.declared.Line.the-variants.{Asks, OtherForm}
-use Rattle.rules.specs.Session.{parts, always, fields, fewDigits, signed, number, ifWhole, next, question}
+use Rattle.rules.specs.Session.{parts, always, fewDigits, signed, number, ifWhole, next, question}
 
 weigh : List (List ℕ) → ℕ
 weigh [] = 0

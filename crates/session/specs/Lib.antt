@@ -1,4 +1,4 @@
 -- `Theorems` is the front door.
-pub mod Room
+pub mod Printing
 pub mod Lengths
 pub mod Theorems

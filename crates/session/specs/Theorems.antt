@@ -1,6 +1,6 @@
--- The session's theorems beside its promise: what is counted is the defined text, and the promise leaves no choice. How long the output can be is in `Room`: what `run` ensures bounds it for every input.
+-- The session's theorems beside its promise: what is counted is the defined text, and the promise leaves no choice. How long the output can be is in `Printing`: what `run` ensures bounds it for every input.
 use mathlib.Core.Path.{_≡_, sym, ap, _∙_}
-use mathlib.Core.List.{List, _++_}
+use mathlib.Core.List.{List}
 use Prim.Native.Nat.{ℕ, _≤_}
 use native.Mathlib.Omega.{arith}
 use lib.ListN.{length, take, drop, length-append}

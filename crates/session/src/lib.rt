@@ -6,7 +6,7 @@ ghost use Prim.Native.Nat.{_*_};
 ghost use lib.ListN.{length};
 ghost use Rattle.rules.specs.Session.{lines, replies};
 ghost use Rattle.answer.specs.Wrote.{Wrote};
-ghost use Rattle.session.specs.Room.{Answers, Ready, Replied, Fits, Ran};
+ghost use Rattle.session.specs.Printing.{Answers, Ready, Replied, Enough, Ran};
 
 fn pick_for(q: Question) -> Pick
     ensures { λ r. ⌜ Answers q r ⌝ }
@@ -33,7 +33,7 @@ fn put_reply(out: &mut [u8], at: usize, line: &[u8]) -> usize
 }
 
 fn put_replies(out: &mut [u8], text: &[u8]) -> usize
-    requires { ⌜ Fits (now out) (now text) ⌝ }
+    requires { ⌜ Enough (now out) (now text) ⌝ }
     ensures { λ r. ⌜ Wrote (5 * length (now (text .entry))) (now (out .entry)) 0 (replies (lines (now (text .entry)))) (now (out .exit)) r ⌝ }
 {
     let mut from = 0;

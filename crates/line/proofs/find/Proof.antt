@@ -1,6 +1,5 @@
 -- `find` finds the end of a part. What is left of the text is the measure.
 use Prim.Native.Nat.{_-_}
-use borrow.Author.Needs.{needs}
 use native.Mathlib.Omega.{arith}
 use lib.ListN.{length}
 use Rattle.line.proofs.Finding.{Finding, finding-starts, finding-more, found-mark, found-end}

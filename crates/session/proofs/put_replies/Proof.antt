@@ -1,6 +1,5 @@
 -- `put_replies` answers line by line. What is left of the text behind the line's end is the measure.
 use Prim.Native.Nat.{_-_}
-use native.Mathlib.Omega.{arith}
 use borrow.Author.Needs.{needs}
 use lib.ListN.{length}
 use Rattle.session.proofs.Loop.{AtLine, at-line-starts, ready-inner, at-line-more, ready-last, ends-last, ends-empty}

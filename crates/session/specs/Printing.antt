@@ -23,7 +23,7 @@ pub record Ready (out : List ℕ) (at : ℕ) (line : List ℕ) : Type 0 where
 pub record Replied (before : List ℕ) (at : ℕ) (line after : List ℕ) (next : ℕ) : Type 0 where
   pub wrote : Wrote (most line) before at (reply (question line)) after next
 
-pub record Fits (out text : List ℕ) : Type 0 where
+pub record Enough (out text : List ℕ) : Type 0 where
   pub short : length text ≤ 65536
   pub room : 5 * length text ≤ length out
 
