@@ -5,7 +5,7 @@ use mathlib.Core.List.{List, [], _∷_}
 use Prim.Native.Nat.{ℕ, zero, suc, _+_, _≤_, _<_}
 use native.Mathlib.Omega.{arith}
 use lib.Dec.{leb, lit<, lit≤}
-use lib.IntN.{ℤ, pos, _+ℤ_, _*ℤ_}
+use lib.IntN.{pos}
 use borrow.Author.Tests.{le-leb, lt-leb}
 use Rattle.rules.specs.declared.Vector.{Vector}
 use Rattle.rules.specs.declared.Look.{Look}
@@ -13,11 +13,9 @@ use Rattle.rules.specs.declared.Look.the-variants.{Filled, Empty, Outside}
 use Rattle.integers.specs.Laws.{*ℤ-distr, *ℤ-idl}
 use Rattle.rules.specs.Vectors.{vector, _⊕_, scale}
 use Rattle.space.specs.Bounds.{Bounded, bounded-is, bounded-wider, bounded-sum}
-use Rattle.rules.specs.Asked.{Asked, answered, refused, _>>=_}
 use Rattle.rules.specs.Walk.{seen, lookAt, falls, powers, powersFrom}
 use Rattle.falls.specs.Tally.{Tally, yes, no, tally, Gives}
 use Rattle.falls.specs.Falls.{Fallen, Falling}
-use Rattle.falls.specs.declared.Falls.{Falls}
 use Rattle.falls.specs.declared.Falls.the-variants.{Fell, Kept, Stopped}
 use Rattle.falls.proofs.Tallies.{then-yes, then-no, at-once}
 

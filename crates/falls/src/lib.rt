@@ -1,9 +1,8 @@
 // Whether a vector falls.
 ghost use Prim.Native.Nat.{_≤_};
-ghost use Rattle.rules.specs.Solids.{look};
 ghost use Rattle.space.specs.Bounds.{Bounded};
 ghost use Rattle.falls.specs.Scene.{Ready};
-ghost use Rattle.falls.specs.Falls.{Fallen};
+ghost use Rattle.falls.specs.Falls.{FallenIn};
 use rules::Look;
 use rules::Solid;
 use rules::Vector;
@@ -26,7 +25,7 @@ pub enum Falls {
 // Whether u, laid in, falls: powers upward from 1 to the first that is at least the reach, each twice as far as the one before.
 pub fn ask_falls(scene: Scene, bytes: &[u8], u: Vector, looks: u32) -> Falls
     requires { ⌜ Ready scene (now bytes) × Bounded 2046 u × (looks ≤ 2000000) ⌝ }
-    ensures { λ r. ⌜ Fallen (look (scene .solid) (now (bytes .entry))) (scene .apex) u (scene .reach) looks r ⌝ }
+    ensures { λ r. ⌜ FallenIn scene (now (bytes .entry)) u looks r ⌝ }
 {
     let solid = scene.solid;
     let q = scene.apex;
@@ -42,8 +41,8 @@ pub fn ask_falls(scene: Scene, bytes: &[u8], u: Vector, looks: u32) -> Falls
                 break Falls::Stopped(at, n);
             }
             Look::Filled => {
-                let m = n + 1;
-                break Falls::Fell(m);
+                let last = n + 1;
+                break Falls::Fell(last);
             }
             Look::Empty => {
                 n = n + 1;

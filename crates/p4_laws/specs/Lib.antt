@@ -1,3 +1,11 @@
 pub mod Judging
 pub mod Stores
 pub mod Rows
+pub mod Scans
+pub mod Headers
+pub mod Images
+pub mod Plain
+pub mod ReadBack
+pub mod Looks
+pub mod Trips
+pub mod RoundTrips

@@ -94,6 +94,19 @@ module _ (w : ℕ) (some : 1 ≤ w) where
       let m = suc-mul r (rowBytes w) in
       simp length-append (omega arith)
 
+  -- bytes behind the rows play no part
+  pub rows-front : (r : ℕ) (bs t : List ℕ) → r * rowBytes w ≤ length bs → rows r w (bs ++ t) ≡ rows r w bs
+  unfolding rows row
+  rows-front zero bs t h = refl
+  rows-front (suc r) bs t h =
+      let n = first-enough r bs h in
+      let p = row-some in
+      let a = take-append-le (rowBytes w - 1) bs t (omega arith) in
+      let b = List·getD-append bs t 0 (rowBytes w - 1) (omega arith) in
+      let d = drop-append-le (rowBytes w) bs t n in
+      (λ i. (a i ++ (cut w (b i) ∷ [])) ++ rows r w (d i))
+      ∙ ap (λ (l : List ℕ). row w bs ++ l) (rows-front r (drop (rowBytes w) bs) t (rest-enough r bs h))
+
   -- rows of rows, whatever stands behind
   pub rows-twice : (r : ℕ) (bs t : List ℕ) → r * rowBytes w ≤ length bs → rows r w (rows r w bs ++ t) ≡ rows r w bs
   unfolding rows
@@ -132,7 +145,7 @@ module _ (w : ℕ) (some : 1 ≤ w) where
       (getD-drop (rowBytes w) bs (i * rowBytes w + x / 8) 0 ∙ ap (λ (k : ℕ). getD bs k 0) y)
 
 -- rows after rows
-pub rows-append : (a b w : ℕ) (bs : List ℕ) → rows (a + b) w bs ≡ rows a w bs ++ rows b w (drop (a * rowBytes w) bs)
+rows-append : (a b w : ℕ) (bs : List ℕ) → rows (a + b) w bs ≡ rows a w bs ++ rows b w (drop (a * rowBytes w) bs)
 unfolding rows
 rows-append zero b w bs =
     ap (λ (k : ℕ). rows k w bs) (zero-add b) ∙ sym (ap (λ (k : ℕ). rows b w (drop k bs)) (zero-mul (rowBytes w)))
@@ -144,3 +157,10 @@ rows-append (suc a) b w bs =
     ∙ ap (λ (l : List ℕ). row w bs ++ l) (rows-append a b w (drop (rowBytes w) bs))
     ∙ sym (append-assoc (row w bs) (rows a w (drop (rowBytes w) bs)) (rows b w (drop (a * rowBytes w) (drop (rowBytes w) bs))))
     ∙ ap (λ (l : List ℕ). (row w bs ++ rows a w (drop (rowBytes w) bs)) ++ rows b w l) (drop-drop (a * rowBytes w) (rowBytes w) bs ∙ ap (λ (k : ℕ). drop k bs) f)
+
+-- those of one slice more
+pub rows-more : (h k w : ℕ) (bs : List ℕ) → rows (suc k * h) w bs ≡ rows h w bs ++ rows (k * h) w (drop (h * rowBytes w) bs)
+rows-more h k w bs =
+    let m = suc-mul k h in
+    let e : suc k * h ≡ h + k * h = omega arith in
+    ap (λ (x : ℕ). rows x w bs) e ∙ rows-append h (k * h) w bs

@@ -10,12 +10,6 @@ use lib.Seq.{sets, set-comm, drop-cons}
 pub drop-here : (s : List ℕ) (i : ℕ) → i < length s → drop i s ≡ getD s i 0 ∷ drop (i + 1) s
 drop-here s i h = rw add-one (drop-cons s i 0 h)
 
--- two runs in a row are one
-pub sets-append : (l : List ℕ) (i : ℕ) (a b : List ℕ) → sets l i (a ++ b) ≡ sets (sets l i a) (i + length a) b
-sets-append l i [] b = ap (λ (k : ℕ). sets l k b) (omega arith)
-sets-append l i (x ∷ a) b =
-    sets-append (set l i x) (suc i) a b ∙ ap (λ (k : ℕ). sets (sets (set l i x) (suc i) a) k b) (omega arith)
-
 -- a byte and a run behind it, in either order
 pub set-sets : (l : List ℕ) (i j : ℕ) (x : ℕ) (b : List ℕ) → i < j → sets (set l i x) j b ≡ set (sets l j b) i x
 set-sets l i j x [] h = refl

@@ -8,7 +8,8 @@ use lib.ListN.{length, getD, take, drop, set, length-set, length-drop}
 use lib.Seq.{sets, length-sets, set-getD, set-set, getD-set-same, take-add, length-take-le, take-suc}
 use Rattle.rules.specs.Solids.{rowBytes, sliceBytes}
 use Rattle.rules.specs.P4.{padding, cut, row, rows}
-use Rattle.p4_laws.specs.Stores.{sets-append, set-sets}
+use Rattle.text.specs.Puts.{sets-append}
+use Rattle.p4_laws.specs.Stores.{set-sets}
 use Rattle.p4_laws.specs.Rows.{row-some, length-row}
 use Rattle.p4_rows.specs.Copies.{RowBytes, Padding, Sides, SliceBytes, Room, RowRoom, cleared}
 

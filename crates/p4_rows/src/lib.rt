@@ -36,7 +36,7 @@ fn cut_byte(b: u8, bits: usize) -> u8
     (b >> bits) << bits
 }
 
-// A plain copy, which compiles to one move of memory.
+// A plain copy, which the compiler makes moves of sixteen bytes.
 fn copy_bytes(src: &[u8], from: usize, out: &mut [u8], to: usize, count: usize)
     requires { ⌜ Room (now src) from (now out) to count ⌝ }
     ensures { λ _. ⌜ now (out .exit) ≡ sets (now (out .entry)) to (take count (drop from (now (src .entry)))) ⌝ }

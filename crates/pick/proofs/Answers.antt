@@ -1,8 +1,8 @@
 -- The answer: what the walk's end, the start and the tests before them make of it.
 use mathlib.Core.Path.{_≡_, refl, sym, ap, _∙_}
 use mathlib.Core.Bool.{Bool, true, false}
-use mathlib.Core.List.{List, [], _∷_}
-use Prim.Native.Nat.{ℕ, _+_, _-_, _≤_, _<_}
+use mathlib.Core.List.{List}
+use Prim.Native.Nat.{ℕ, _-_, _≤_, _<_}
 use native.Mathlib.Omega.{arith}
 use lib.Dec.{leb}
 use borrow.Author.Tests.{le-leb, lt-leb}
@@ -10,7 +10,6 @@ use mir.Syntax.{w32}
 use mir.Val.{SFits, toZ, ofZ}
 use mir.Facts.{toZ-ofZ}
 use lib.IntN.{ℤ, pos, natAbs}
-use lib.ListN.{length}
 use Rattle.rules.specs.declared.Vector.{Vector}
 use Rattle.rules.specs.declared.Solid.{Solid}
 use Rattle.rules.specs.declared.Look.{Look}
@@ -22,8 +21,8 @@ use Rattle.rules.specs.Vectors.{_⊕_, origin, lay, size}
 use Rattle.rules.specs.Solids.{between, permitted, box, inBox, look}
 use Rattle.solid.specs.Asks.{Permitted}
 use Rattle.solid.specs.Facts.{look-inside}
-use Rattle.rules.specs.Asked.{Asked, answered, refused, _>>=_}
-use Rattle.rules.specs.Walk.{Stop, stop, ensure, signs, powers, normal, units, walk, Found, found, start, rounds}
+use Rattle.rules.specs.Asked.{Asked, answered, refused}
+use Rattle.rules.specs.Walk.{Stop, stop, signs, powers, normal, units, walk, Found, found, start, rounds}
 use Rattle.rules.specs.Pick.{isInside, pick, answer, pickOf}
 use Rattle.falls.specs.Tally.{Tally, yes, no, tally, Gives}
 use Rattle.falls.proofs.Tallies.{then-yes, then-no, ensured, not-ensured, at-once}

@@ -1,17 +1,15 @@
 -- The axes, one by one: one that does not fall is refusal 7, a point outside refusal 8.
 use mathlib.Core.Path.{_≡_, refl, sym, ap, _∙_}
-use mathlib.Core.Bool.{Bool, true, false}
 use mathlib.Core.List.{List, [], _∷_}
-use Prim.Native.Nat.{ℕ, _+_, _≤_}
+use Prim.Native.Nat.{ℕ}
 use native.Mathlib.Omega.{arith}
 use lib.Dec.{lit≤}
 use Rattle.rules.specs.declared.Vector.{Vector}
 use Rattle.rules.specs.declared.Look.{Look}
 use Rattle.rules.specs.declared.Refused.{Refused}
 use Rattle.rules.specs.Vectors.{_⊕_, minus, lay, unit0, unit1, unit2}
-use Rattle.rules.specs.Asked.{Asked, answered, _>>=_}
-use Rattle.rules.specs.Walk.{Stop, stop, ensure, asked, powers, falls, axes}
-use Rattle.falls.specs.Tally.{Tally, yes, no, tally, Gives}
+use Rattle.rules.specs.Walk.{stop, powers, falls, axes}
+use Rattle.falls.specs.Tally.{Gives}
 use Rattle.falls.specs.declared.Falls.{Falls}
 use Rattle.falls.specs.declared.Falls.the-variants.{Fell, Kept, Stopped}
 use Rattle.laws.specs.Frames.{Signs}

@@ -5,7 +5,7 @@ use Prim.Native.Nat.{ℕ, _≤_}
 use native.Mathlib.Omega.{arith}
 use lib.Dec.{T}
 use lib.IntN.{ℤ, pos, negsuc, natAbs}
-use lib.Signed.{nonNeg, _≤ℤ_}
+use lib.Signed.{nonNeg}
 use mir.Syntax.{w32}
 use mir.Val.{Fits}
 use Rattle.integers.specs.Order.{parts}

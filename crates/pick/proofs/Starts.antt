@@ -1,18 +1,18 @@
 -- The start: p, then, if p is filled, q, then the axes.
 use mathlib.Core.Path.{_≡_, refl, sym, ap, _∙_}
-use mathlib.Core.Bool.{Bool, true, false, not}
-use mathlib.Core.List.{List, [], _∷_}
-use Prim.Native.Nat.{ℕ, _+_, _≤_}
+use mathlib.Core.Bool.{not}
+use mathlib.Core.List.{[], _∷_}
+use Prim.Native.Nat.{ℕ}
 use native.Mathlib.Omega.{arith}
 use Rattle.rules.specs.declared.Vector.{Vector}
 use Rattle.rules.specs.declared.Look.{Look}
 use Rattle.rules.specs.declared.Look.the-variants.{Filled, Empty, Outside}
 use Rattle.rules.specs.declared.Refused.{Refused}
 use Rattle.rules.specs.Vectors.{unit0, unit1, unit2}
-use Rattle.rules.specs.Asked.{Asked, answered, _>>=_}
+use Rattle.rules.specs.Asked.{_>>=_}
 use Rattle.rules.specs.Walk.{Stop, stop, ensure, asked, lookAt, powers, axes, start}
-use Rattle.falls.specs.Tally.{Tally, yes, no, tally, Gives}
-use Rattle.falls.proofs.Tallies.{then-yes, then-no, asked-yes, asked-no, ensured, not-ensured, at-once}
+use Rattle.falls.specs.Tally.{Tally, no, Gives}
+use Rattle.falls.proofs.Tallies.{then-yes, then-no, asked-yes, asked-no, ensured, not-ensured}
 use Rattle.falls.proofs.Powers.{filled-there, empty-there, outside-there}
 use Rattle.walk.specs.Walk.{refusalOf}
 use Rattle.pick.specs.Start.{AxesAsked, Started}

@@ -2,3 +2,4 @@
 pub mod Start
 pub mod Pick
 pub mod Promises
+pub mod Excluded

@@ -15,7 +15,8 @@ use Rattle.rules.specs.Solids.{look}
 use Rattle.rules.specs.Asked.{Asked, answered, _>>=_, _>>_}
 use Rattle.rules.specs.Walk.{Stop, stop, ensure, signs, triangle, normal, Found, found, start, rounds}
 use Rattle.rules.specs.Pick.{isInside, pickOf}
-use Rattle.falls.specs.Tally.{Tally, yes, no, Gives}
+use Rattle.falls.specs.declared.Scene.{Scene}
+use Rattle.falls.specs.Tally.{Tally, yes, Gives}
 use Rattle.walk.specs.Walk.{toldRefusal}
 
 abbrev pub told : Pick → Tally Stop Found
@@ -58,3 +59,13 @@ pub record Placed (solid : Solid) (bytes : List ℕ) (p : Vector) (frame R : ℕ
 
 pub record Picked (solid : Solid) (bytes : List ℕ) (p : Vector) (frame reach : ℤ) (r : Pick) : Type 0 where
   pub is : r ≡ pickOf solid bytes p frame reach
+
+-- in a scene, with the bytes lent
+abbrev pub EndedIn : Scene → Triangle → ℕ → ℕ → Pick → Type 0
+EndedIn v m steps looks r = Ended (v .signs) (v .apex) (v .reach) m steps looks r
+
+abbrev pub RoundedIn : Scene → List ℕ → ℕ → Pick → Type 0
+RoundedIn v bytes looks r = Rounded (look (v .solid) bytes) (v .signs) (v .apex) (v .reach) looks r
+
+abbrev pub BegunIn : Scene → List ℕ → Vector → Pick → Type 0
+BegunIn v bytes p r = Begun (look (v .solid) bytes) (v .signs) p (v .apex) (v .reach) r

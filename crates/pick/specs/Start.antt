@@ -4,10 +4,11 @@ use mathlib.Core.List.{List, [], _∷_}
 use Prim.Native.Nat.{ℕ, _+_, _≤_}
 use Rattle.rules.specs.declared.Vector.{Vector}
 use Rattle.rules.specs.declared.Look.{Look}
-use Rattle.rules.specs.declared.Refused.{Refused}
 use Rattle.rules.specs.Vectors.{unit0, unit1, unit2}
+use Rattle.rules.specs.Solids.{look}
 use Rattle.rules.specs.Walk.{Stop, powers, axes, start}
-use Rattle.falls.specs.Tally.{Tally, yes, no, tally, Gives}
+use Rattle.falls.specs.declared.Scene.{Scene}
+use Rattle.falls.specs.Tally.{Tally, yes, tally, Gives}
 use Rattle.walk.specs.Walk.{toldRefusal}
 use Rattle.pick.specs.declared.Start.{Start}
 use Rattle.pick.specs.declared.Start.the-variants.{Begun, Refused as IsRefused}
@@ -38,3 +39,13 @@ module _ (look : Vector → Look) (q s : Vector) (reach : ℕ) where
   pub record Started (p : Vector) (r : Start) : Type 0 where
     pub gives : Gives 0 (start look s p q reach) (told r)
     pub few : looksOf r ≤ 1538
+
+-- in a scene, with the bytes lent
+abbrev pub AxisAskedIn : Scene → List ℕ → Vector → Start → Start → Type 0
+AxisAskedIn v bytes e before r = AxisAsked (look (v .solid) bytes) (v .apex) (v .signs) (v .reach) e before r
+
+abbrev pub AxesAskedIn : Scene → List ℕ → ℕ → Start → Type 0
+AxesAskedIn v bytes looks r = AxesAsked (look (v .solid) bytes) (v .apex) (v .signs) (v .reach) looks r
+
+abbrev pub StartedIn : Scene → List ℕ → Vector → Start → Type 0
+StartedIn v bytes p r = Started (look (v .solid) bytes) (v .apex) (v .signs) (v .reach) p r

@@ -1,7 +1,6 @@
 // The pick: what is refused, in order, and the walk.
 ghost use mathlib.Core.Path.{_≡_};
 ghost use Prim.Native.Nat.{_≤_};
-ghost use Rattle.rules.specs.Solids.{look};
 ghost use Rattle.rules.specs.Walk.{sign, signs, normal};
 ghost use Rattle.rules.specs.Pick.{WedgePromise, StackPromise};
 ghost use Rattle.space.specs.Bounds.{Bounded};
@@ -9,8 +8,8 @@ ghost use Rattle.solid.specs.Asks.{Permitted};
 ghost use Rattle.laws.specs.Frames.{Signs};
 ghost use Rattle.falls.specs.Scene.{Ready};
 ghost use Rattle.round.specs.Round.{Sound};
-ghost use Rattle.pick.specs.Start.{looksOf, AxisAsked, AxesAsked, Started};
-ghost use Rattle.pick.specs.Pick.{layTriangle, Ended, Rounded, Begun, Placed, Picked};
+ghost use Rattle.pick.specs.Start.{looksOf, AxisAskedIn, AxesAskedIn, StartedIn};
+ghost use Rattle.pick.specs.Pick.{layTriangle, EndedIn, RoundedIn, BegunIn, Placed, Picked};
 use falls::Falls;
 use falls::Scene;
 use rules::Accepted;
@@ -52,7 +51,7 @@ fn signs_of(frame: u32) -> Vector
 // One axis more.
 fn ask_axis(scene: Scene, bytes: &[u8], e: Vector, sofar: Start) -> Start
     requires { ⌜ Ready scene (now bytes) × Bounded 1 e × (looksOf sofar ≤ 1500) ⌝ }
-    ensures { λ r. ⌜ AxisAsked (look (scene .solid) (now (bytes .entry))) (scene .apex) (scene .signs) (scene .reach) e sofar r ⌝ }
+    ensures { λ r. ⌜ AxisAskedIn scene (now (bytes .entry)) e sofar r ⌝ }
 {
     match sofar {
         Start::Refused(r) => Start::Refused(r),
@@ -72,7 +71,7 @@ fn ask_axis(scene: Scene, bytes: &[u8], e: Vector, sofar: Start) -> Start
 
 fn ask_axes(scene: Scene, bytes: &[u8], looks: u32) -> Start
     requires { ⌜ Ready scene (now bytes) × (looks ≤ 2) ⌝ }
-    ensures { λ r. ⌜ AxesAsked (look (scene .solid) (now (bytes .entry))) (scene .apex) (scene .signs) (scene .reach) looks r ⌝ }
+    ensures { λ r. ⌜ AxesAskedIn scene (now (bytes .entry)) looks r ⌝ }
 {
     let begun = Start::Begun(looks);
     let a = ask_axis(scene, bytes, Vector { x: 1, y: 0, z: 0 }, begun);
@@ -83,7 +82,7 @@ fn ask_axes(scene: Scene, bytes: &[u8], looks: u32) -> Start
 // Look at p, then, if p is filled, q; then the axes.
 fn start_at(scene: Scene, bytes: &[u8], p: Vector) -> Start
     requires { ⌜ Ready scene (now bytes) ⌝ }
-    ensures { λ r. ⌜ Started (look (scene .solid) (now (bytes .entry))) (scene .apex) (scene .signs) (scene .reach) p r ⌝ }
+    ensures { λ r. ⌜ StartedIn scene (now (bytes .entry)) p r ⌝ }
 {
     let solid = scene.solid;
     let q = scene.apex;
@@ -128,17 +127,13 @@ fn lay_triangle(s: Vector, m: Triangle) -> Triangle
     let a = space::lay(s, m0);
     let b = space::lay(s, m1);
     let c = space::lay(s, m2);
-    Triangle {
-        m0: a,
-        m1: b,
-        m2: c,
-    }
+    round::make_triangle(a, b, c)
 }
 
 // No pair falls.
 fn end_walk(scene: Scene, m: Triangle, steps: u32, looks: u32) -> Pick
     requires { ⌜ Sound m × Signs (scene .signs) ⌝ }
-    ensures { λ r. ⌜ Ended (scene .signs) (scene .apex) (scene .reach) m steps looks r ⌝ }
+    ensures { λ r. ⌜ EndedIn scene m steps looks r ⌝ }
 {
     let s = scene.signs;
     let q = scene.apex;
@@ -162,7 +157,7 @@ fn end_walk(scene: Scene, m: Triangle, steps: u32, looks: u32) -> Pick
 
 fn ask_rounds(scene: Scene, bytes: &[u8], looks: u32) -> Pick
     requires { ⌜ Ready scene (now bytes) × (looks ≤ 2000) ⌝ }
-    ensures { λ r. ⌜ Rounded (look (scene .solid) (now (bytes .entry))) (scene .signs) (scene .apex) (scene .reach) looks r ⌝ }
+    ensures { λ r. ⌜ RoundedIn scene (now (bytes .entry)) looks r ⌝ }
 {
     let w = walk::walk_on(scene, bytes, looks);
     match w {
@@ -175,7 +170,7 @@ fn ask_rounds(scene: Scene, bytes: &[u8], looks: u32) -> Pick
 
 fn begin(scene: Scene, bytes: &[u8], p: Vector) -> Pick
     requires { ⌜ Ready scene (now bytes) ⌝ }
-    ensures { λ r. ⌜ Begun (look (scene .solid) (now (bytes .entry))) (scene .signs) p (scene .apex) (scene .reach) r ⌝ }
+    ensures { λ r. ⌜ BegunIn scene (now (bytes .entry)) p r ⌝ }
 {
     let b = start_at(scene, bytes, p);
     match b {

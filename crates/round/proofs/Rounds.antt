@@ -1,9 +1,9 @@
 -- The round, pair by pair: a pair that fell is weighed against the best so far, one that kept is passed over, a point outside ends the round.
 -- The best of those that fall is the definition's choice, since the triangle's determinant is 1.
 use mathlib.Core.Path.{_≡_, refl, sym, ap, _∙_}
-use mathlib.Core.Bool.{Bool, true, false}
+use mathlib.Core.Bool.{Bool}
 use mathlib.Core.List.{List, [], _∷_}
-use Prim.Native.Nat.{ℕ, _+_, _≤_}
+use Prim.Native.Nat.{ℕ}
 use native.Mathlib.Omega.{arith}
 use lib.IntN.{pos}
 use Rattle.rules.specs.declared.Vector.{Vector}
@@ -14,13 +14,13 @@ use Rattle.rules.specs.declared.Pair.the-variants.{P01, P02, P10, P12, P20, P21
 use Rattle.rules.specs.declared.Choice.{Choice}
 use Rattle.rules.specs.declared.Choice.the-variants.{Nothing}
 use Rattle.rules.specs.Vectors.{lay}
-use Rattle.rules.specs.Asked.{Asked, answered, refused, _>>=_}
+use Rattle.rules.specs.Asked.{Asked, answered, _>>=_}
 use Rattle.rules.specs.Walk.{powers, pairs, way, keep, falls, falling, round}
-use Rattle.falls.specs.Tally.{Tally, yes, no, tally, Gives}
+use Rattle.falls.specs.Tally.{tally, Gives}
 use Rattle.falls.specs.declared.Falls.{Falls}
 use Rattle.falls.specs.declared.Falls.the-variants.{Fell, Kept, Stopped as Stops}
 use Rattle.falls.specs.Falls.{told, looksOf as looksOfFalls, Fallen}
-use Rattle.falls.proofs.Tallies.{then-yes, then-no, inner-yes, inner-no, made-twice, at-once}
+use Rattle.falls.proofs.Tallies.{then-yes, inner-yes, inner-no, made-twice, at-once}
 use Rattle.laws.specs.Triples.{detOf}
 use Rattle.laws.specs.Choosing.{better, best, best-is-choice}
 use Rattle.round.specs.Round.{Sound, told as toldRound, looksOf, remaining, rest, PairAsked, RoundAsked}

@@ -8,11 +8,13 @@ use Rattle.rules.specs.declared.Look.{Look}
 use Rattle.rules.specs.declared.Triangle.{Triangle}
 use Rattle.rules.specs.declared.Pair.{Pair}
 use Rattle.rules.specs.declared.Choice.{Choice}
+use Rattle.rules.specs.Solids.{look}
 use Rattle.rules.specs.Asked.{Asked, answered, _>>=_}
 use Rattle.rules.specs.Walk.{powers, falling, round}
 use Rattle.laws.specs.Triples.{detOf}
 use Rattle.laws.specs.Choosing.{best}
 use Rattle.space.specs.Bounds.{Bounded}
+use Rattle.falls.specs.declared.Scene.{Scene}
 use Rattle.falls.specs.Tally.{Tally, yes, no, tally, Gives}
 use Rattle.round.specs.declared.Round.{Round}
 use Rattle.round.specs.declared.Round.the-variants.{Asked as IsAsked, Stopped}
@@ -50,3 +52,10 @@ module _ (look : Vector → Look) (q s : Vector) (reach : ℕ) (m : Triangle) wh
   pub record RoundAsked (looks : ℕ) (r : Round) : Type 0 where
     pub gives : Gives looks (round look q s (powers reach) m) (told r)
     pub few : looksOf r ≤ looks + 3072
+
+-- in a scene, with the bytes lent
+abbrev pub PairAskedIn : Scene → List ℕ → Triangle → Pair → Round → Round → Type 0
+PairAskedIn v bytes m x before r = PairAsked (look (v .solid) bytes) (v .apex) (v .signs) (v .reach) m x before r
+
+abbrev pub RoundAskedIn : Scene → List ℕ → Triangle → ℕ → Round → Type 0
+RoundAskedIn v bytes m looks r = RoundAsked (look (v .solid) bytes) (v .apex) (v .signs) (v .reach) m looks r

@@ -1,12 +1,10 @@
 // One round: the six pairs, and the choice.
 ghost use mathlib.Core.Path.{_≡_};
 ghost use Prim.Native.Nat.{_≤_};
-ghost use Rattle.rules.specs.Solids.{look};
-ghost use Rattle.rules.specs.Walk.{first, second, way, with, step, inside};
+ghost use Rattle.rules.specs.Walk.{triangle, first, second, way, with, step, inside};
 ghost use Rattle.laws.specs.Choosing.{better};
-ghost use Rattle.space.specs.Bounds.{Bounded};
 ghost use Rattle.falls.specs.Scene.{Ready};
-ghost use Rattle.round.specs.Round.{Sound, looksOf, PairAsked, RoundAsked};
+ghost use Rattle.round.specs.Round.{Sound, looksOf, PairAskedIn, RoundAskedIn};
 use falls::Falls;
 use falls::Scene;
 use rules::Choice;
@@ -58,6 +56,16 @@ fn way_of(m: Triangle, x: Pair) -> Vector
     space::subtract(second_of(m, x), first_of(m, x))
 }
 
+pub fn make_triangle(a: Vector, b: Vector, c: Vector) -> Triangle
+    ensures { λ r. ⌜ r ≡ triangle a b c ⌝ }
+{
+    Triangle {
+        m0: a,
+        m1: b,
+        m2: c,
+    }
+}
+
 // a in the place of m_k
 fn replace(m: Triangle, x: Pair, a: Vector) -> Triangle
     ensures { λ r. ⌜ r ≡ with m x a ⌝ }
@@ -66,36 +74,12 @@ fn replace(m: Triangle, x: Pair, a: Vector) -> Triangle
     let m1 = m.m1;
     let m2 = m.m2;
     match x {
-        Pair::P01 => Triangle {
-            m0: a,
-            m1: m1,
-            m2: m2,
-        },
-        Pair::P02 => Triangle {
-            m0: a,
-            m1: m1,
-            m2: m2,
-        },
-        Pair::P10 => Triangle {
-            m0: m0,
-            m1: a,
-            m2: m2,
-        },
-        Pair::P12 => Triangle {
-            m0: m0,
-            m1: a,
-            m2: m2,
-        },
-        Pair::P20 => Triangle {
-            m0: m0,
-            m1: m1,
-            m2: a,
-        },
-        Pair::P21 => Triangle {
-            m0: m0,
-            m1: m1,
-            m2: a,
-        },
+        Pair::P01 => make_triangle(a, m1, m2),
+        Pair::P02 => make_triangle(a, m1, m2),
+        Pair::P10 => make_triangle(m0, a, m2),
+        Pair::P12 => make_triangle(m0, a, m2),
+        Pair::P20 => make_triangle(m0, m1, a),
+        Pair::P21 => make_triangle(m0, m1, a),
     }
 }
 
@@ -147,7 +131,7 @@ fn prefer(m: Triangle, c: Choice, y: Pair) -> Choice
 // One pair more.
 fn ask_pair(scene: Scene, bytes: &[u8], m: Triangle, x: Pair, sofar: Round) -> Round
     requires { ⌜ Ready scene (now bytes) × Sound m × (looksOf sofar ≤ 1500000) ⌝ }
-    ensures { λ r. ⌜ PairAsked (look (scene .solid) (now (bytes .entry))) (scene .apex) (scene .signs) (scene .reach) m x sofar r ⌝ }
+    ensures { λ r. ⌜ PairAskedIn scene (now (bytes .entry)) m x sofar r ⌝ }
 {
     match sofar {
         Round::Stopped(p, n) => Round::Stopped(p, n),
@@ -167,7 +151,7 @@ fn ask_pair(scene: Scene, bytes: &[u8], m: Triangle, x: Pair, sofar: Round) -> R
 // All six pairs, even after one has fallen.
 pub fn ask_round(scene: Scene, bytes: &[u8], m: Triangle, looks: u32) -> Round
     requires { ⌜ Ready scene (now bytes) × Sound m × (looks ≤ 1000000) ⌝ }
-    ensures { λ r. ⌜ RoundAsked (look (scene .solid) (now (bytes .entry))) (scene .apex) (scene .signs) (scene .reach) m looks r ⌝ }
+    ensures { λ r. ⌜ RoundAskedIn scene (now (bytes .entry)) m looks r ⌝ }
 {
     let none = Round::Asked(Choice::Nothing, looks);
     let a = ask_pair(scene, bytes, m, Pair::P01, none);

@@ -36,10 +36,11 @@ judge false number place = wrong number place
 -- ---- A header. A place is an offset in the whole input s; behind its end `getD` gives 0, which no header has,
 -- so the place of a byte that is missing is the input's length
 
--- the word stands at a place
-unfoldable pub stands : List ℕ → List ℕ → ℕ → Bool
-stands [] s at = true
-stands (b ∷ bs) s at = eqb (getD s at 0) b && stands bs s (at + 1)
+-- the word stands at the front of some bytes
+unfoldable pub stands : List ℕ → List ℕ → Bool
+stands [] bytes = true
+stands (b ∷ bs) [] = false
+stands (b ∷ bs) (c ∷ cs) = eqb c b && stands bs cs
 
 -- the bytes "P4"
 abbrev pub magic : List ℕ
@@ -97,7 +98,7 @@ pub record Header : Type 0 where
 -- "P4", a gap, width, a gap, height, one white space byte
 unfoldable pub headerAt : List ℕ → ℕ → Judged Header
 headerAt s at = do
-  judge (stands magic s at) 21 at
+  judge (stands magic (drop at s)) 21 at
   gap ← white s (at + 2)
   width ← fieldAt 256 23 s gap
   height ← fieldAt 256 23 s (width .next)

@@ -1,7 +1,7 @@
 -- The walk, round by round: what the round's answer makes of it.
-use mathlib.Core.Path.{_≡_, refl, sym, ap, subst, _∙_}
-use mathlib.Core.List.{List, []}
-use Prim.Native.Nat.{ℕ, zero, suc, _+_, _-_, _*_, _≤_, _<_}
+use mathlib.Core.Path.{_≡_, refl, ap, _∙_}
+use mathlib.Core.List.{List}
+use Prim.Native.Nat.{ℕ, zero, suc, _+_, _-_, _≤_}
 use native.Mathlib.Omega.{arith}
 use native.Mathlib.Numerals.{add-one}
 use mathlib.Core.Bool.{Bool, true}
@@ -16,20 +16,18 @@ use Rattle.rules.specs.declared.Choice.the-variants.{Nothing, Chosen}
 use Rattle.rules.specs.declared.Refused.{Refused}
 use Rattle.rules.specs.Vectors.{det, cross, dot}
 use Rattle.rules.specs.Solids.{look}
-use Rattle.rules.specs.Asked.{Asked, answered, refused, _>>=_}
-use Rattle.rules.specs.Walk.{Stop, stop, asked, powers, units, step, round, walk}
+use Rattle.rules.specs.Walk.{Stop, stop, powers, units, step, round, walk}
 use Rattle.laws.specs.Triples.{All, detOf, step-det}
 use Rattle.laws.specs.Ranges.{WithinEach}
 use Rattle.laws.specs.Boxes.{look-inside, units-within, triangle-within}
 use Rattle.space.specs.Bounds.{Bounded}
-use Rattle.falls.specs.Tally.{Tally, yes, no, tally, Gives}
+use Rattle.falls.specs.Tally.{Tally, yes, no, Gives}
 use Rattle.falls.proofs.Tallies.{then-yes, then-no, asked-yes, asked-no, at-once, refused-at-once, was-answered}
 use Rattle.falls.specs.declared.Scene.{Scene}
 use Rattle.falls.specs.Scene.{Ready}
 use Rattle.round.specs.declared.Round.{Round}
 use Rattle.round.specs.declared.Round.the-variants.{Asked as IsAsked, Stopped}
 use Rattle.round.specs.Round.{Sound, told as toldRound, looksOf, RoundAsked}
-use Rattle.walk.specs.declared.Walked.{Walked}
 use Rattle.walk.specs.declared.Walked.the-variants.{Ended, Refused as IsRefused}
 use Rattle.walk.specs.Walk.{refusalOf, Walks, Walking}
 

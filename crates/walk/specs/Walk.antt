@@ -1,11 +1,13 @@
 -- The walk: what its end tells, and what holds before each round.
-use mathlib.Core.Path.{_≡_}
+use mathlib.Core.List.{List}
 use Prim.Native.Nat.{ℕ, _+_, _-_, _*_, _≤_}
 use Rattle.rules.specs.declared.Vector.{Vector}
 use Rattle.rules.specs.declared.Look.{Look}
 use Rattle.rules.specs.declared.Triangle.{Triangle}
 use Rattle.rules.specs.declared.Refused.{Refused}
+use Rattle.rules.specs.Solids.{look}
 use Rattle.rules.specs.Walk.{Stop, stop, powers, units, walk}
+use Rattle.falls.specs.declared.Scene.{Scene}
 use Rattle.falls.specs.Tally.{Tally, yes, no, Gives}
 use Rattle.round.specs.Round.{Sound}
 use Rattle.walk.specs.declared.Walked.{Walked}
@@ -38,3 +40,7 @@ module _ (look : Vector → Look) (q s : Vector) (reach looks : ℕ) where
     pub high : reach ≤ 256
     pub few : n ≤ 2000 + 3072 * steps
     pub rest : {r : Tally Stop (Triangle × ℕ)} → Gives n (walk look q s (powers reach) (reach - 3 - steps) steps m) r → Gives looks (walk look q s (powers reach) (reach - 3) 0 units) r
+
+-- in a scene, with the bytes lent
+abbrev pub WalksIn : Scene → List ℕ → ℕ → Walked → Type 0
+WalksIn v bytes looks r = Walks (look (v .solid) bytes) (v .apex) (v .signs) (v .reach) looks r

@@ -1,10 +1,9 @@
 // The walk: rounds and steps until no pair falls.
 ghost use mathlib.Core.Path.{_≡_};
 ghost use Prim.Native.Nat.{_≤_};
-ghost use Rattle.rules.specs.Solids.{look};
 ghost use Rattle.rules.specs.Walk.{units};
 ghost use Rattle.falls.specs.Scene.{Ready};
-ghost use Rattle.walk.specs.Walk.{refusalOf, Walks};
+ghost use Rattle.walk.specs.Walk.{refusalOf, WalksIn};
 use falls::Scene;
 use round::Round;
 use rules::Choice;
@@ -24,11 +23,7 @@ fn unit_vectors() -> Triangle
     let a = Vector { x: 1, y: 0, z: 0 };
     let b = Vector { x: 0, y: 1, z: 0 };
     let c = Vector { x: 0, y: 0, z: 1 };
-    Triangle {
-        m0: a,
-        m1: b,
-        m2: c,
-    }
+    round::make_triangle(a, b, c)
 }
 
 pub fn refusal(number: u32, place: Vector, steps: u32, looks: u32) -> Refused
@@ -45,7 +40,7 @@ pub fn refusal(number: u32, place: Vector, steps: u32, looks: u32) -> Refused
 // Begin with the unit vectors and zero steps; at most R - 3 steps.
 pub fn walk_on(scene: Scene, bytes: &[u8], looks: u32) -> Walked
     requires { ⌜ Ready scene (now bytes) × (looks ≤ 2000) ⌝ }
-    ensures { λ r. ⌜ Walks (look (scene .solid) (now (bytes .entry))) (scene .apex) (scene .signs) (scene .reach) looks r ⌝ }
+    ensures { λ r. ⌜ WalksIn scene (now (bytes .entry)) looks r ⌝ }
 {
     let q = scene.apex;
     let limit = scene.reach - 3;

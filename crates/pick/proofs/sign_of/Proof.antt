@@ -1,6 +1,4 @@
 -- `pick::sign_of` meets its contract: by the bit.
-use mathlib.Core.Path.{sym, ap}
-use Rattle.rules.specs.Walk.{sign}
 use Rattle.pick.proofs.Frames.{sign-zero, sign-more}
 use Rattle.pick.proofs.sign_of.Statement.{statement}
 use Rattle.pick.proofs.sign_of.Tie as tie

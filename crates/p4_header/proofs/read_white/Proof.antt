@@ -1,0 +1,15 @@
+use borrow.Author.Needs.{needs}
+use Rattle.p4_header.proofs.Judgements.{white-there, white-not, white-past}
+use Rattle.p4_header.proofs.read_white.Statement.{statement}
+use Rattle.p4_header.proofs.read_white.Tie as tie
+
+pub read-white-spec : {M : Type 1} → statement M
+read-white-spec =
+    tie.close
+    (tie.spec
+    (λ c. search needs)
+    (λ c κs. search needs)
+    (λ c. search needs)
+    (λ c. search white-there)
+    (λ c. search white-not)
+    (λ c. search white-past))

@@ -1,0 +1,16 @@
+use borrow.Author.Needs.{needs}
+use Rattle.p4_read.proofs.Reading.{first-asked, first-before, read-refused, read-all}
+use Rattle.p4_read.proofs.read.Statement.{statement}
+use Rattle.p4_read.proofs.read.Tie as tie
+
+pub read-spec : {M : Type 1} → statement M
+read-spec =
+    tie.close
+    (tie.spec
+    (λ c κs. search needs)
+    (λ c. search needs)
+    (λ c. search needs)
+    (λ c κs. search (first-asked, first-before))
+    (λ c. search read-refused)
+    (λ c. search needs)
+    (λ c. search read-all))

@@ -1,0 +1,3 @@
+pub mod Sides
+pub mod Headers
+pub mod Writing

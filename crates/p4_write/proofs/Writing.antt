@@ -1,0 +1,211 @@
+-- The loop over slices, in which what is left to write, laid over what is written, gives the whole; and each way out of the writer.
+use mathlib.Core.Path.{_≡_, refl, sym, ap, subst, _∙_}
+use mathlib.Core.Bool.{Bool, true, false, _&&_}
+use mathlib.Core.List.{List, [], _∷_, _++_, append-assoc}
+use Prim.Native.Nat.{ℕ, suc, _+_, _-_, _*_, _≤_, _<_}
+use native.Mathlib.Nat.{zero-add, suc-mul, mul-le-mul}
+use native.Mathlib.Omega.{arith}
+use lib.Dec.{leb}
+use lib.IntN.{ℤ, pos}
+use lib.ListN.{length, drop, length-append, length-drop}
+use lib.Seq.{sets, sets-eq, drop-drop}
+use borrow.Author.Tests.{le-leb, lt-leb}
+use Rattle.rules.specs.declared.Stack.{Stack}
+use Rattle.rules.specs.declared.Writing.{Writing}
+use Rattle.rules.specs.declared.Writing.the-variants.{Written, Unwritten}
+use Rattle.rules.specs.Solids.{between, permittedSize, rowBytes, sliceBytes, stackBytes, permittedStack}
+use Rattle.rules.specs.P4.{Judged, good, wrong, _>>=_, judge, rows, plainHeader, slices, plain, sizes, writing, writeAnswer, stored, WritePromise}
+use Rattle.text.specs.Put.{Room, Put}
+use Rattle.text.specs.Puts.{sets-append, put-then}
+use Rattle.p4_laws.specs.Judging.{pass, fail, both, not-first, not-second}
+use Rattle.p4_laws.specs.Plain.{header-length, slices-none, slices-more, slices-length, slice-rows}
+use Rattle.p4_rows.specs.Copies.{Sides, SliceBytes, Room as CopyRoom}
+use Rattle.p4_write.specs.Slices.{Side, Figures, HeaderRoom, Three, SlicesRoom}
+
+pub sides : {w h d : ℕ} → Three w h d → Sides w h
+sides T = record { some = T .wide .0; wide = T .wide .1; high = T .high .1 }
+
+-- ---- the loop
+pub record Going (src first : List ℕ) (w h d : ℕ) (out : List ℕ) (at from left : ℕ) : Type 0 where
+  pub same : length out ≡ length first
+  pub source : from + left * sliceBytes w h ≤ length src
+  pub room : at + length (slices left w h (drop from src)) ≡ length (slices d w h src)
+  pub rest : sets out at (slices left w h (drop from src)) ≡ sets first 0 (slices d w h src)
+
+pub going-start : {src out : List ℕ} {w h d : ℕ} → SlicesRoom w h d src out → Going src out w h d out 0 0 d
+going-start S = record { same = refl; source = let x = S .source in omega arith; room = zero-add _; rest = refl }
+
+pub going-end : {src first out : List ℕ} {w h d at from left : ℕ} → Going src first w h d out at from left → left ≤ 0 → Put first 0 (slices d w h src) out at
+going-end {src} {out = out} {w} {h} {at = at} {from = from} G e =
+    let z = slices-none w h (drop from src) e in
+    let l = ap length z in
+    let r = G .room in
+    record { is = ap (sets out at) (sym z) ∙ G .rest; past = omega arith }
+
+module _ {src first out : List ℕ} {w h d at from left : ℕ} (S : SlicesRoom w h d src first) (G : Going src first w h d out at from left) (e : 0 < left) where
+  behind : List ℕ
+  behind = slices (left - 1) w h (drop (from + sliceBytes w h) src)
+
+  split : slices left w h (drop from src) ≡ plainHeader w h ++ (rows h w (drop from src) ++ behind)
+  unfolding behind
+  split =
+      slices-more w h left (drop from src) e
+      ∙ ap (λ (x : List ℕ). plainHeader w h ++ (rows h w (drop from src) ++ slices (left - 1) w h x)) (drop-drop (sliceBytes w h) from src)
+
+  less : left * sliceBytes w h ≡ sliceBytes w h + (left - 1) * sliceBytes w h
+  less =
+      let z : left ≡ suc (left - 1) = omega arith in
+      ap (λ (x : ℕ). x * sliceBytes w h) z ∙ (let m = suc-mul (left - 1) (sliceBytes w h) in omega arith)
+
+  rows-there : from + sliceBytes w h ≤ length src
+  rows-there = let s = G .source in let m = less in omega arith
+
+  rows-many : length (rows h w (drop from src)) ≡ sliceBytes w h
+  rows-many = let i = rows-there in slice-rows w h (S .three .wide .0) (drop from src) (simp length-drop (omega arith))
+
+  fills : at + (length (plainHeader w h) + (sliceBytes w h + length behind)) ≡ length (slices d w h src)
+  fills =
+      let r = rows-many in
+      let l = ap length split ∙ length-append (plainHeader w h) (rows h w (drop from src) ++ behind) ∙ ap (λ (x : ℕ). length (plainHeader w h) + x) (length-append (rows h w (drop from src)) behind) in
+      let m = G .room in
+      omega arith
+
+  pub header-room : HeaderRoom out at w h
+  header-room = let f = fills in let m = G .same in let t = S .target in record { wide = S .three .wide .1; high = S .three .high .1; room = record { fits = omega arith } }
+
+  module _ {mid : List ℕ} {o : ℕ} (P : Put out at (plainHeader w h) mid o) where
+    pub copy-room : length mid ≡ length out → CopyRoom src from mid o (sliceBytes w h)
+    copy-room l = let f = fills in let m = G .same in let t = S .target in let p = P .past in record { source = rows-there; target = omega arith }
+
+    module _ {size : ℕ} (Z : SliceBytes w h size) where
+      pub next-from : from + size ≤ length src
+      next-from = let x = rows-there in let z = Z .is in omega arith
+
+      pub next-at : o + size ≤ length first
+      next-at = let f = fills in let t = S .target in let p = P .past in let z = Z .is in omega arith
+
+      pub going-next : {after : List ℕ} → after ≡ sets mid o (rows h w (drop from src)) → length after ≡ length mid → length mid ≡ length out → Going src first w h d after (o + size) (from + size) (left - 1)
+      unfolding behind
+      going-next {after} c l k =
+          let z = Z .is in
+          let r = rows-many in
+          let Q : Put mid o (rows h w (drop from src)) after (o + sliceBytes w h) = record { is = c; past = ap (λ (x : ℕ). o + x) (sym r) } in
+          let B = put-then P Q in
+          let p = B .past in
+          let H = plainHeader w h ++ rows h w (drop from src) in
+          let f = fills in
+          let s = G .source in
+          let m = less in
+          let b = P .past in
+          subst (λ (x : ℕ). Going src first w h d after (o + x) (from + x) (left - 1)) (sym z)
+          (record {
+            same = l ∙ k ∙ G .same;
+            source = omega arith;
+            room = omega arith;
+            rest =
+                ap (λ (x : ℕ). sets after x (slices (left - 1) w h (drop (from + sliceBytes w h) src))) p
+                ∙ ap (λ (x : List ℕ). sets x (at + length H) (slices (left - 1) w h (drop (from + sliceBytes w h) src))) (B .is)
+                ∙ sym (sets-append out at H (slices (left - 1) w h (drop (from + sliceBytes w h) src)))
+                ∙ ap (sets out at) (append-assoc (plainHeader w h) (rows h w (drop from src)) (slices (left - 1) w h (drop (from + sliceBytes w h) src)) ∙ sym split)
+                ∙ G .rest;
+          })
+
+-- ---- each way out of the writer
+refuse : (k : Stack) (bytes out : List ℕ) → permittedStack k bytes ≡ false → WritePromise k bytes out out (Unwritten 3 0)
+unfolding writing writeAnswer stored
+refuse k bytes out e =
+    let q : writing k bytes (length out) ≡ wrong 3 0 = fail 3 0 _ e in
+    record { answers = sym (ap writeAnswer q); leaves = sym (ap (λ (x : Judged (List ℕ)). stored (λ l. l) x out) q) }
+
+module _ {w h d size : ℕ} (T : Three w h d) (Z : SliceBytes w h size) where
+  pub stack-small : d * size ≤ 2097152
+  stack-small = mul-le-mul (T .deep .1) (Z .small)
+
+  pub need-small : {a b : ℕ} → Figures w a → Figures h b → d * (5 + (a + b) + size) ≤ 2099968
+  need-small {a} {b} A B = let x = A .few in let y = B .few in let z = Z .small in let k : 5 + (a + b) + size ≤ 8203 = omega arith in mul-le-mul (T .deep .1) k
+
+module _ (bytes : List ℕ) {w h d size : ℕ} (T : Three w h d) (Z : SliceBytes w h size) where
+  in-range : permittedStack (sizes w h d) bytes ≡ leb (d * sliceBytes w h) (length bytes)
+  unfolding permittedStack between stackBytes
+  in-range =
+      let one : (n : ℕ) → (1 ≤ n) × (n ≤ 256) → permittedSize (pos n) ≡ true = λ n r. both (le-leb 1 n (r .0)) (le-leb n 256 (r .1)) in
+      let t = leb (d * sliceBytes w h) (length bytes) in
+      ap (λ (x : Bool). x && (permittedSize (pos h) && (permittedSize (pos d) && t))) (one w (T .wide))
+      ∙ ap (λ (x : Bool). x && (permittedSize (pos d) && t)) (one h (T .high))
+      ∙ ap (λ (x : Bool). x && t) (one d (T .deep))
+
+  pub stack-few : (out : List ℕ) → length bytes < d * size → WritePromise (sizes w h d) bytes out out (Unwritten 3 0)
+  stack-few out l =
+      let y = ap (λ (x : ℕ). d * x) (Z .is) in
+      refuse (sizes w h d) bytes out (in-range ∙ lt-leb (d * sliceBytes w h) (length bytes) (omega arith))
+
+  module _ (l : d * size ≤ length bytes) where
+    enough : d * sliceBytes w h ≤ length bytes
+    enough = subst (λ (x : ℕ). d * x ≤ length bytes) (Z .is) l
+
+    judged : (n : ℕ) → writing (sizes w h d) bytes n ≡ (judge (leb (length (slices d w h bytes)) n) 27 (length (slices d w h bytes)) >>= λ _. good (slices d w h bytes))
+    unfolding writing plain
+    judged n = pass 3 0 _ (in-range ∙ le-leb (d * sliceBytes w h) (length bytes) enough)
+
+    module _ {a b : ℕ} (A : Figures w a) (B : Figures h b) where
+      needed : d * (5 + (a + b) + size) ≡ length (slices d w h bytes)
+      needed =
+          let x = A .is in
+          let y = B .is in
+          let z = Z .is in
+          let k : 5 + (a + b) + size ≡ length (plainHeader w h) + sliceBytes w h = omega (arith, header-length w h) in
+          ap (λ (v : ℕ). d * v) k ∙ sym (slices-length w h (T .wide .0) d bytes enough)
+
+      pub stack-short : {out : List ℕ} → length out < d * (5 + (a + b) + size) → WritePromise (sizes w h d) bytes out out (Unwritten 27 (d * (5 + (a + b) + size)))
+      unfolding writeAnswer stored
+      stack-short {out} s =
+          let n = needed in
+          let q : writing (sizes w h d) bytes (length out) ≡ wrong 27 (length (slices d w h bytes)) = judged (length out) ∙ fail 27 _ _ (lt-leb (length (slices d w h bytes)) (length out) (omega arith)) in
+          record { answers = ap (Unwritten 27) n ∙ sym (ap writeAnswer q); leaves = sym (ap (λ (x : Judged (List ℕ)). stored (λ l. l) x out) q) }
+
+      module _ {out : List ℕ} (s : d * (5 + (a + b) + size) ≤ length out) where
+        pub slices-room : SlicesRoom w h d bytes out
+        slices-room = let n = needed in record { three = T; source = enough; target = omega arith }
+
+        pub stack-written : {after : List ℕ} {n : ℕ} → Put out 0 (slices d w h bytes) after n → WritePromise (sizes w h d) bytes out after (Written n)
+        unfolding writeAnswer stored
+        stack-written P =
+            let L = slices d w h bytes in
+            let t = slices-room .target in
+            let q : writing (sizes w h d) bytes (length out) ≡ good L = judged (length out) ∙ pass 27 _ _ (le-leb (length L) (length out) t) in
+            record {
+              answers = ap Written (P .past ∙ zero-add (length L)) ∙ sym (ap writeAnswer q);
+              leaves =
+                  P .is
+                  ∙ sets-eq L out 0 (omega arith)
+                  ∙ ap (λ (x : ℕ). L ++ drop x out) (zero-add (length L))
+                  ∙ sym (ap (λ (x : Judged (List ℕ)). stored (λ l. l) x out) q);
+            }
+
+-- ---- from three numbers of any value
+pub three : {x y z : ℤ} {w h d : ℕ} → Side x w → Side y h → Side z d → (w ≡ 0 → ⊥) → (h ≡ 0 → ⊥) → (d ≡ 0 → ⊥) → Three w h d
+three A B C p q r = let a = A .small in let b = B .small in let c = C .small in record { wide = omega arith; high = omega arith; deep = omega arith }
+
+module _ {k : Stack} (bytes : List ℕ) {w h d : ℕ} (A : Side (k .width) w) (B : Side (k .height) h) (C : Side (k .depth) d) where
+  zeroed : {n : ℕ} → n ≡ 0 → leb 1 n ≡ false
+  zeroed {n} e = lt-leb 1 n (omega arith)
+
+  pub no-width : (out : List ℕ) → w ≡ 0 → WritePromise k bytes out out (Unwritten 3 0)
+  unfolding permittedStack
+  no-width out e = refuse k bytes out (not-first _ (A .judged ∙ zeroed e))
+
+  pub no-height : (out : List ℕ) → h ≡ 0 → WritePromise k bytes out out (Unwritten 3 0)
+  unfolding permittedStack
+  no-height out e = refuse k bytes out (not-second (permittedSize (k .width)) (not-first _ (B .judged ∙ zeroed e)))
+
+  pub no-depth : (out : List ℕ) → d ≡ 0 → WritePromise k bytes out out (Unwritten 3 0)
+  unfolding permittedStack
+  no-depth out e = refuse k bytes out (not-second (permittedSize (k .width)) (not-second (permittedSize (k .height)) (not-first _ (C .judged ∙ zeroed e))))
+
+  pub write-sized : (w ≡ 0 → ⊥) → (h ≡ 0 → ⊥) → (d ≡ 0 → ⊥) → {out after : List ℕ} {x : Writing} → WritePromise (sizes w h d) bytes out after x → WritePromise k bytes out after x
+  write-sized p q r {out} {after} {x} W =
+      let a = A .is (omega arith) in
+      let b = B .is (omega arith) in
+      let c = C .is (omega arith) in
+      let e : sizes w h d ≡ k = sym (λ i. record { width = a i; height = b i; depth = c i }) in
+      subst (λ (y : Stack). WritePromise y bytes out after x) e W

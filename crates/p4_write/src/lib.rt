@@ -1,0 +1,106 @@
+// The writer of P4 stacks: the plain form.
+use rules::Stack;
+use rules::Writing;
+ghost use mathlib.Core.Path.{_≡_};
+ghost use Prim.Native.Nat.{_≤_};
+ghost use Rattle.rules.specs.P4.{sizes, plainHeader, slices, WritePromise};
+ghost use Rattle.text.specs.Put.{Put};
+ghost use Rattle.p4_write.specs.Slices.{Side, Figures, HeaderRoom, Three, SlicesRoom};
+
+// A side of a stack, or 0 for a number that is none.
+fn side_of(n: i32) -> usize
+    ensures { λ r. ⌜ Side n r ⌝ }
+{
+    if n < 1 {
+        return 0;
+    }
+    if 256 < n {
+        return 0;
+    }
+    n as usize
+}
+
+// How many digits a side has.
+fn figures(n: usize) -> usize
+    requires { ⌜ n ≤ 256 ⌝ }
+    ensures { λ r. ⌜ Figures n r ⌝ }
+{
+    if n < 10 {
+        return 1;
+    }
+    if n < 100 {
+        return 2;
+    }
+    3
+}
+
+fn put_header(out: &mut [u8], at: usize, width: usize, height: usize) -> usize
+    requires { ⌜ HeaderRoom (now out) at width height ⌝ }
+    ensures { λ r. ⌜ Put (now (out .entry)) at (plainHeader width height) (now (out .exit)) r ⌝ }
+{
+    let w = width as u32;
+    let h = height as u32;
+    let a = text::put(out, at, b"P4\n");
+    let b = text::put_number(out, a, w);
+    let c = text::put(out, b, b" ");
+    let d = text::put_number(out, c, h);
+    text::put(out, d, b"\n")
+}
+
+// All slices, at the front of out: the place behind them.
+fn write_slices(width: usize, height: usize, depth: usize, bytes: &[u8], out: &mut [u8]) -> usize
+    requires { ⌜ SlicesRoom width height depth (now bytes) (now out) ⌝ }
+    ensures { λ r. ⌜ Put (now (out .entry)) 0 (slices depth width height (now (bytes .entry))) (now (out .exit)) r ⌝ }
+{
+    let size = p4_rows::slice_bytes(width, height);
+    let mut at = 0;
+    let mut from = 0;
+    let mut left = depth;
+    while 0 < left {
+        let rows = put_header(out, at, width, height);
+        p4_rows::copy_rows(bytes, from, out, rows, width, height);
+        at = rows + size;
+        from = from + size;
+        left = left - 1;
+    }
+    at
+}
+
+fn write_stack(width: usize, height: usize, depth: usize, bytes: &[u8], out: &mut [u8]) -> Writing
+    requires { ⌜ Three width height depth ⌝ }
+    ensures { λ r. ⌜ WritePromise (sizes width height depth) (now (bytes .entry)) (now (out .entry)) (now (out .exit)) r ⌝ }
+{
+    let size = p4_rows::slice_bytes(width, height);
+    if bytes.len() < depth * size {
+        return Writing::Unwritten(3, 0);
+    }
+    let a = figures(width);
+    let b = figures(height);
+    let need = depth * (5 + (a + b) + size);
+    if out.len() < need {
+        return Writing::Unwritten(27, need);
+    }
+    Writing::Written(write_slices(width, height, depth, bytes, out))
+}
+
+// The plain form of a stack, at the front of out.
+pub fn write(stack: Stack, bytes: &[u8], out: &mut [u8]) -> Writing
+    ensures { λ r. ⌜ WritePromise stack (now (bytes .entry)) (now (out .entry)) (now (out .exit)) r ⌝ }
+{
+    let x = stack.width;
+    let y = stack.height;
+    let z = stack.depth;
+    let width = side_of(x);
+    let height = side_of(y);
+    let depth = side_of(z);
+    if width == 0 {
+        return Writing::Unwritten(3, 0);
+    }
+    if height == 0 {
+        return Writing::Unwritten(3, 0);
+    }
+    if depth == 0 {
+        return Writing::Unwritten(3, 0);
+    }
+    write_stack(width, height, depth, bytes, out)
+}
