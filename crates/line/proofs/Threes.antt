@@ -18,27 +18,27 @@ use Rattle.line.specs.Reading.{rest, withField, FieldAt, nextThree, Thre
 
 module _ {line : List ℕ} {at : ℕ} {f : Field} (F : FieldAt line at f) where
   pub no-first : f ≡ NoField → ThreeAt line at NoThree
-  no-first e = record { is = λ k. F .is _ ∙ ap (λ (r : Field). withField line r (λ x s1. next s1 λ y s2. next s2 λ z s3. k (vector x y z) s3)) e }
+  no-first e = record { is = λ k. F .is _ ∙ ap (λ (r : Field). withField line r (λ x others. next others λ y others. next others λ z others. k (vector x y z) others)) e }
 
   module _ {x : ℤ} {second : ℕ} (e : f ≡ Holds x second) {g : Field} (G : FieldAt line second g) where
-    first : (k : Vector → List (List ℕ) → Line) → nextThree (rest line at) k ≡ withField line g (λ y s2. next s2 λ z s3. k (vector x y z) s3)
-    first k = F .is _ ∙ ap (λ (r : Field). withField line r (λ x s1. next s1 λ y s2. next s2 λ z s3. k (vector x y z) s3)) e ∙ G .is _
+    first : (k : Vector → List (List ℕ) → Line) → nextThree (rest line at) k ≡ withField line g (λ y others. next others λ z others. k (vector x y z) others)
+    first k = F .is _ ∙ ap (λ (r : Field). withField line r (λ x others. next others λ y others. next others λ z others. k (vector x y z) others)) e ∙ G .is _
 
     pub no-second : g ≡ NoField → ThreeAt line at NoThree
-    no-second d = record { is = λ k. first k ∙ ap (λ (r : Field). withField line r (λ y s2. next s2 λ z s3. k (vector x y z) s3)) d }
+    no-second d = record { is = λ k. first k ∙ ap (λ (r : Field). withField line r (λ y others. next others λ z others. k (vector x y z) others)) d }
 
     module _ {y : ℤ} {third : ℕ} (d : g ≡ Holds y third) {h : Field} (H : FieldAt line third h) where
-      then : (k : Vector → List (List ℕ) → Line) → nextThree (rest line at) k ≡ withField line h (λ z s3. k (vector x y z) s3)
-      then k = first k ∙ ap (λ (r : Field). withField line r (λ y s2. next s2 λ z s3. k (vector x y z) s3)) d ∙ H .is _
+      then : (k : Vector → List (List ℕ) → Line) → nextThree (rest line at) k ≡ withField line h (λ z others. k (vector x y z) others)
+      then k = first k ∙ ap (λ (r : Field). withField line r (λ y others. next others λ z others. k (vector x y z) others)) d ∙ H .is _
 
       pub no-third : h ≡ NoField → ThreeAt line at NoThree
-      no-third c = record { is = λ k. then k ∙ ap (λ (r : Field). withField line r (λ z s3. k (vector x y z) s3)) c }
+      no-third c = record { is = λ k. then k ∙ ap (λ (r : Field). withField line r (λ z others. k (vector x y z) others)) c }
 
       pub all-three : {z : ℤ} {behind : ℕ} → h ≡ Holds z behind → mag x < 2147483648 → mag y < 2147483648 → mag z < 2147483648
           → ThreeAt line at (Values (vector (toZ w32 (ofZ w32 x)) (toZ w32 (ofZ w32 y)) (toZ w32 (ofZ w32 z))) behind)
       all-three {z} {behind} c p q r = record {
         is = λ k.
             then k
-            ∙ ap (λ (r : Field). withField line r (λ z s3. k (vector x y z) s3)) c
+            ∙ ap (λ (r : Field). withField line r (λ z others. k (vector x y z) others)) c
             ∙ (λ i. k (vector (sym (back w32 x p) i) (sym (back w32 y q) i) (sym (back w32 z r) i)) (rest line behind));
       }

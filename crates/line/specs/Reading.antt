@@ -60,7 +60,7 @@ pub record FieldAt (line : List ℕ) (at : ℕ) (r : Field) : Type 0 where
 
 -- ---- three fields
 abbrev pub nextThree : List (List ℕ) → (Vector → List (List ℕ) → Line) → Line
-nextThree fs k = next fs λ x s1. next s1 λ y s2. next s2 λ z s3. k (vector x y z) s3
+nextThree fs k = next fs λ x others. next others λ y others. next others λ z others. k (vector x y z) others
 
 abbrev pub withThree : List ℕ → Three → (Vector → List (List ℕ) → Line) → Line
 withThree line (Values v behind) k = k v (rest line behind)

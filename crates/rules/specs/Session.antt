@@ -85,9 +85,9 @@ onlyThese (part ∷ others) line = OtherForm
 -- a b c h, p, frame, R
 unfoldable pub question : List ℕ → Line
 question line =
-    next (fields line) λ a s1. next s1 λ b s2. next s2 λ c s3. next s3 λ h s4.
-    next s4 λ x s5. next s5 λ y s6. next s6 λ z s7. next s7 λ frame s8. next s8 λ reach s9.
-    onlyThese s9
+    next (fields line) λ a others. next others λ b others. next others λ c others. next others λ h others.
+    next others λ x others. next others λ y others. next others λ z others. next others λ frame others. next others λ reach others.
+    onlyThese others
     (Asks record { wedge = record { a = a; b = b; c = c; h = h }; p = vector x y z; frame = frame; reach = reach })
 
 -- ---- It prints one line for each: "N", normal, steps, looks; or "R", number, place, steps, looks; or "B"
