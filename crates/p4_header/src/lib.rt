@@ -160,11 +160,12 @@ pub fn read_field(src: &[u8], at: usize, most: usize, number: u32) -> FieldRead
     match e {
         PlaceRead::NotAt(no, p) => FieldRead::NoValue(no, p),
         PlaceRead::At(next) => {
+            let refused = FieldRead::NoValue(number, first);
             if v < 1 {
-                return FieldRead::NoValue(number, first);
+                return refused;
             }
             if most < v {
-                return FieldRead::NoValue(number, first);
+                return refused;
             }
             FieldRead::Value(v, next)
         }

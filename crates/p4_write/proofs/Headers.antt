@@ -1,5 +1,4 @@
 -- The plain header, put part by part: after each part there is room for the next, and all parts in a row are the header.
-use mathlib.Core.Path.{_≡_, refl}
 use mathlib.Core.List.{List, [], _∷_, _++_}
 use Prim.Native.Nat.{ℕ}
 use Rattle.rules.specs.Decimals.{decimal}
@@ -30,8 +29,8 @@ module _ {out : List ℕ} {at w h : ℕ} (R : HeaderRoom out at w h) where
     room-width = room-first (decimal w) after-width (room-then after-magic all A)
 
     module _ {o₂ : List ℕ} {b : ℕ} (B : Put o₁ a (decimal w) o₂ b) where
-      pub room-space : Room o₂ b (32 ∷ [])
-      room-space = room-first (32 ∷ []) after-space (room-then after-width (room-then after-magic all A) B)
+      pub room-space : (x : ℕ) → Room o₂ b (x ∷ [])
+      room-space x = record { fits = room-first (32 ∷ []) after-space (room-then after-width (room-then after-magic all A) B) .fits }
 
       module _ {o₃ : List ℕ} {c : ℕ} (C : Put o₂ b (32 ∷ []) o₃ c) where
         rest : Room o₃ c after-space
