@@ -102,5 +102,5 @@ unfolding display
 other-is-refused x y z e = rw (e, display)
 
 -- two answers that the promise allows are equal
-pub display-answers-equal : {x y z : ℤ} {a b : Display} → DisplayPromise x y z a → DisplayPromise x y z b → a ≡ b
-display-answers-equal p q = p .is ∙ sym (q .is)
+pub display-settled : {x y z : ℤ} {a b : Display} → DisplayPromise x y z a → DisplayPromise x y z b → a ≡ b
+display-settled p q = p .is ∙ sym (q .is)

@@ -15,7 +15,6 @@ use Rattle.rules.specs.declared.Pick.{Pick}
 use Rattle.rules.specs.declared.Pick.the-variants.{Accepted as IsAccepted, Refused as IsRefused}
 use Rattle.rules.specs.declared.Number.{Number}
 use Rattle.rules.specs.declared.Number.the-variants.{Whole, NoNumber}
-use Rattle.rules.specs.declared.Question.{Question}
 use Rattle.rules.specs.declared.Line.{Line}
 use Rattle.rules.specs.declared.Line.the-variants.{Asks, OtherForm}
 use Rattle.rules.specs.Vectors.{vector}

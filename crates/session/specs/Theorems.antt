@@ -20,5 +20,5 @@ module _ {input before after : List ℕ} {count : ℕ} (P : SessionPromise input
   printed = ap (take count) (P .prints) ∙ take-at (session input) (drop (length (session input)) before) count (sym (P .counted))
 
 -- two outputs and counts that the promise allows are equal
-pub session-answers-equal : {input before a b : List ℕ} {m n : ℕ} → SessionPromise input before a m → SessionPromise input before b n → (a ≡ b) × (m ≡ n)
-session-answers-equal p q = (p .prints ∙ sym (q .prints), p .counted ∙ sym (q .counted))
+pub session-settled : {input before a b : List ℕ} {m n : ℕ} → SessionPromise input before a m → SessionPromise input before b n → (a ≡ b) × (m ≡ n)
+session-settled p q = (p .prints ∙ sym (q .prints), p .counted ∙ sym (q .counted))
