@@ -29,8 +29,8 @@ module _ {out : List ℕ} {at w h : ℕ} (R : HeaderRoom out at w h) where
     room-width = room-first (decimal w) after-width (room-then after-magic all A)
 
     module _ {o₂ : List ℕ} {b : ℕ} (B : Put o₁ a (decimal w) o₂ b) where
-      pub room-space : (x : ℕ) → Room o₂ b (x ∷ [])
-      room-space x = record { fits = room-first (32 ∷ []) after-space (room-then after-width (room-then after-magic all A) B) .fits }
+      pub room-space : Room o₂ b (32 ∷ [])
+      room-space = room-first (32 ∷ []) after-space (room-then after-width (room-then after-magic all A) B)
 
       module _ {o₃ : List ℕ} {c : ℕ} (C : Put o₂ b (32 ∷ []) o₃ c) where
         rest : Room o₃ c after-space
@@ -40,8 +40,9 @@ module _ {out : List ℕ} {at w h : ℕ} (R : HeaderRoom out at w h) where
         room-height = room-first (decimal h) (10 ∷ []) rest
 
         module _ {o₄ : List ℕ} {d : ℕ} (D : Put o₃ c (decimal h) o₄ d) where
-          pub room-end : Room o₄ d (10 ∷ [])
-          room-end = room-then (10 ∷ []) rest D
+          -- for a byte, whatever it is
+          pub room-end : (x : ℕ) → Room o₄ d (x ∷ [])
+          room-end x = record { fits = room-then (10 ∷ []) rest D .fits }
 
           pub header-put : {o₅ : List ℕ} {e : ℕ} → Put o₄ d (10 ∷ []) o₅ e → Put out at (plainHeader w h) o₅ e
           unfolding plainHeader
