@@ -37,7 +37,7 @@ fn all_in_range(x: i32, y: i32, z: i32) -> bool
     false
 }
 
-// The largest m with m·m·s at most t, by halves.
+// The largest m with m·m·s at most t, by halves: `high` ends as the first that is too large.
 fn root(s: u64, t: u64) -> u32
     requires { ⌜ Low s t ⌝ }
     ensures { λ r. ⌜ r ≡ largest s t 32768 ⌝ }
@@ -53,7 +53,7 @@ fn root(s: u64, t: u64) -> u32
             high = middle;
         }
     }
-    low
+    high - 1
 }
 
 fn size_over(s: u64, n: i32) -> u32

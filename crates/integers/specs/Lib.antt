@@ -1,4 +1,5 @@
--- The integers: a commutative ring with a solver, their order by `omega`, sizes, and the machine's signed numbers. `Examples` has a line for each use.
+-- The integers: a commutative ring with a solver, their order by `omega`, sizes, and the machine's signed numbers.
+-- `Examples` has a line for each use.
 pub mod Laws
 pub mod Ring
 pub mod Reify

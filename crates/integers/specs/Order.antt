@@ -5,10 +5,10 @@
 -- A product of two atoms is an atom to `omega`: state the multiplied fact first (`*ℤ-mono`).
 use mathlib.Core.Path.{_≡_, refl, sym, ap, _∙_}
 use mathlib.Core.Bool.{Bool, true, false, cond, not}
-use Prim.Native.Nat.{ℕ, zero, suc, _+_, _*_, _-_, _≤_, _<_}
+use Prim.Native.Nat.{ℕ, zero, suc, _+_, _*_, _≤_, _<_}
 use native.Mathlib.Nat as NatL
 use native.Mathlib.Omega.{arith}
-use lib.Dec.{T, ltb, leb, ltb→lt, nltb→le, leb→le, le→leb, not-T}
+use lib.Dec.{T, ltb, ltb→lt, nltb→le, leb→le, le→leb, not-T}
 use mir.Facts.{T-not-not}
 use lib.IntN.{ℤ, pos, negsuc, negℤ, subℕ, _+ℤ_, _*ℤ_}
 use lib.Signed.{_≤ℤ_, _<ℤ_, ltZ, ltZ-no, clashℤ}
@@ -64,12 +64,13 @@ pub record Difference (z : ℤ) : Type 0 where
   pub minus : ℕ
   pub is : above z + minus ≡ plus + below z
 
+by-cond : (P : ℤ → Type 0) (t : Bool) {x y : ℤ} → (T t → P x) → (T (not t) → P y) → P (cond t x y)
+by-cond P true f g = f tt
+by-cond P false f g = g tt
+
 subℕ-is : (a b : ℕ) → above (subℕ a b) + b ≡ a + below (subℕ a b)
-subℕ-is a b = go (ltb a b) (ltb→lt a b) (nltb→le a b)
-  where
-    go : (t : Bool) → (T t → a < b) → (T (not t) → b ≤ a) → above (cond t (negsuc (b - suc a)) (pos (a - b))) + b ≡ a + below (cond t (negsuc (b - suc a)) (pos (a - b)))
-    go true f g = omega (arith, f tt)
-    go false f g = omega (arith, g tt)
+subℕ-is a b =
+    by-cond (λ z. above z + b ≡ a + below z) (ltb a b) (λ t. omega (arith, ltb→lt a b t)) (λ t. omega (arith, nltb→le a b t))
 
 pub opposite-is : (x : ℤ) → above (negℤ x) + above x ≡ below x + below (negℤ x)
 opposite-is (pos zero) = refl
@@ -82,7 +83,8 @@ sum-is (pos a) (negsuc b) = omega (arith, subℕ-is a (suc b))
 sum-is (negsuc a) (pos b) = omega (arith, subℕ-is b (suc a))
 sum-is (negsuc a) (negsuc b) = omega arith
 
-pub product-is : (x y : ℤ) → above (x *ℤ y) + (above x * below y + below x * above y) ≡ (above x * above y + below x * below y) + below (x *ℤ y)
+pub product-is : (x y : ℤ)
+    → above (x *ℤ y) + (above x * below y + below x * above y) ≡ (above x * above y + below x * below y) + below (x *ℤ y)
 product-is (pos a) (pos b) = omega arith
 product-is (pos a) (negsuc b) = omega (arith, opposite-is (pos (a * suc b)))
 product-is (negsuc a) (pos b) = omega (arith, opposite-is (pos (suc a * b)))
@@ -103,11 +105,14 @@ opposite-parts {x} a = record { plus = a .minus; minus = a .plus; is = omega (ar
 abbrev pub sum-parts : {x y : ℤ} → Difference x → Difference y → Difference (x +ℤ y)
 sum-parts {x} {y} a b = record { plus = a .plus + b .plus; minus = a .minus + b .minus; is = omega (arith, sum-is x y) }
 
+pub times : {m n : ℕ} (k : ℕ) → m ≡ n → m * k ≡ n * k
+times k e = ap (λ (i : ℕ). i * k) e
+
 abbrev pub product-parts : {x y : ℤ} → Difference x → Difference y → Difference (x *ℤ y)
 product-parts {x} {y} a b = record {
   plus = a .plus * b .plus + a .minus * b .minus;
   minus = a .plus * b .minus + a .minus * b .plus;
-  is = omega (arith, product-is x y, ap (λ (n : ℕ). n * above y) (a .is), ap (λ (n : ℕ). n * below y) (a .is), ap (λ (n : ℕ). a .plus * n) (b .is), ap (λ (n : ℕ). a .minus * n) (b .is));
+  is = omega (arith, product-is x y, times (above y) (a .is), times (below y) (a .is), times (a .plus) (b .is), times (a .minus) (b .is));
 }
 
 -- ---- a statement on integers, told as one on naturals
@@ -117,13 +122,25 @@ pub record Linear (A : Type 0) : Type 1 where
   pub ask : Told → A
 
 abbrev pub le-linear : {x y : ℤ} → Difference x → Difference y → Linear (x ≤ℤ y)
-le-linear a b = record { Told = a .plus + b .minus ≤ b .plus + a .minus; tell = λ h. omega (arith, parts); ask = λ h. omega (arith, parts) }
+le-linear a b = record {
+  Told = a .plus + b .minus ≤ b .plus + a .minus;
+  tell = λ h. omega (arith, parts);
+  ask = λ h. omega (arith, parts);
+}
 
 abbrev pub lt-linear : {x y : ℤ} → Difference x → Difference y → Linear (x <ℤ y)
-lt-linear a b = record { Told = a .plus + b .minus < b .plus + a .minus; tell = λ h. omega (arith, parts); ask = λ h. omega (arith, parts) }
+lt-linear a b = record {
+  Told = a .plus + b .minus < b .plus + a .minus;
+  tell = λ h. omega (arith, parts);
+  ask = λ h. omega (arith, parts);
+}
 
 abbrev pub eq-linear : {x y : ℤ} → Difference x → Difference y → Linear (x ≡ y)
-eq-linear a b = record { Told = a .plus + b .minus ≡ b .plus + a .minus; tell = λ h. omega (arith, parts); ask = λ h. omega (arith, parts) }
+eq-linear a b = record {
+  Told = a .plus + b .minus ≡ b .plus + a .minus;
+  tell = λ h. omega (arith, parts);
+  ask = λ h. omega (arith, parts);
+}
 
 pub ruleset linear = (le-linear, lt-linear, eq-linear, sum-parts, opposite-parts, product-parts, literal-parts, negative-parts)
 

@@ -8,7 +8,7 @@ use native.Mathlib.Nat as NatL
 use native.Mathlib.Omega.{arith}
 use lib.IntN.{ℤ, pos, negsuc, negℤ, _+ℤ_, _*ℤ_, natAbs}
 use lib.Signed.{_≤ℤ_, pos-natAbs, yes-nonNeg}
-use Rattle.integers.specs.Order.{above, below, parts, Difference, Linear, sum-is, opposite-is}
+use Rattle.integers.specs.Order.{above, below, Difference, Linear, sum-is, opposite-is}
 
 -- a record, so that B and z can be inferred
 pub record Within (B : ℕ) (z : ℤ) : Type 0 where
@@ -26,7 +26,11 @@ parts-within {x = negsuc n} h = record { size = omega arith }
 pub ruleset sizes = (within-parts, parts-within)
 
 abbrev pub within-linear : {B : ℕ} {x : ℤ} → Difference x → Linear (Within B x)
-within-linear {B} a = record { Told = (a .plus - a .minus) + (a .minus - a .plus) ≤ B; tell = λ h. omega (arith, sizes); ask = λ h. omega (arith, sizes) }
+within-linear {B} a = record {
+  Told = (a .plus - a .minus) + (a .minus - a .plus) ≤ B;
+  tell = λ h. omega (arith, sizes);
+  ask = λ h. omega (arith, sizes);
+}
 
 pub natural : {x : ℤ} → pos 0 ≤ℤ x → pos (natAbs x) ≡ x
 natural {x} h = pos-natAbs x (yes-nonNeg h)

@@ -1,5 +1,5 @@
 -- The pick's answer: what was told of the question holds of its two cases.
-use mathlib.Core.Path.{_≡_, ap, subst, _∙_}
+use mathlib.Core.Path.{_≡_, sym, ap, ap₂, subst, _∙_}
 use mathlib.Core.List.{List}
 use Prim.Native.Nat.{ℕ, _+_, _*_, _-_, _≤_}
 use native.Mathlib.Nat as NatL
@@ -9,19 +9,21 @@ use Rattle.rules.specs.declared.Vector.{Vector}
 use Rattle.rules.specs.declared.Look.{Look}
 use Rattle.rules.specs.declared.Solid.{Solid}
 use Rattle.rules.specs.declared.Triangle.{Triangle}
+use Rattle.rules.specs.declared.Pair.the-variants.{P01, P02}
 use Rattle.rules.specs.declared.Accepted.{Accepted as AcceptedPick}
 use Rattle.rules.specs.declared.Refused.{Refused as RefusedPick}
 use Rattle.rules.specs.declared.Pick.{Pick}
 use Rattle.rules.specs.declared.Pick.the-variants.{Accepted, Refused}
-use Rattle.rules.specs.Vectors.{dot, lay}
+use Rattle.rules.specs.Vectors.{_⊕_, _⊖_, scale, dot, lay}
 use Rattle.rules.specs.Asked.{Asked, answered, refused}
 use Rattle.rules.specs.Solids.{permitted, look}
-use Rattle.rules.specs.Walk.{Stop, stop, powers, triangle, normal, Found, found}
+use Rattle.rules.specs.Walk.{Stop, stop, powers, triangle, way, normal, Found, found}
 use Rattle.rules.specs.Pick.{pick, answer, pickOf}
 use Rattle.laws.specs.Parts.{Positive}
-use Rattle.laws.specs.Triples.{All, detOf, normal-dot, tame-normal}
+use Rattle.laws.specs.Triples.{All, detOf, normal-dot, sides-generate}
+use Rattle.laws.specs.Tame.{tame-normal}
 use Rattle.laws.specs.Says.{Says}
-use Rattle.laws.specs.Frames.{Signs, lay-lay, lay-dot}
+use Rattle.laws.specs.Frames.{Signs, lay-lay, lay-dot, lay-scale, lay-difference, lay-sum}
 use Rattle.laws.specs.Picks.{Told, Accepting, Picked, pick-says}
 
 -- a triangle laid into the box, or back out of it
@@ -83,6 +85,19 @@ module _ {look : Vector → Look} {q s : Vector} {R : ℕ} {f : Found} (h : Acce
 
   pub accepting-signs : Signs s → Positive (lay s (f .normal))
   accepting-signs g = rw (accepting-normal, lay-lay s (normal (h .at .0)) g) (tame-normal (h .at .0) (h .end .tame))
+
+  -- laid in, the sides generate the plane of the laid-in normal
+  pub accepting-sides : Signs s → (v : Vector) → dot (f .normal) v ≡ pos 0 → (c1 : ℤ) × (c2 : ℤ) × (v ≡ scale c1 (way (f .triangle) P01) ⊕ scale c2 (way (f .triangle) P02))
+  accepting-sides g v e = rw accepting-triangle (c .0, c .1, sym (lay-lay s v g) ∙ ap (lay s) (c .2) ∙ lay-sum s _ _ ∙ ap₂ _⊕_ (side (c .0) (m .m1)) (side (c .1) (m .m2)))
+    where
+      m : Triangle
+      m = h .at .0
+
+      c : (c1 : ℤ) × (c2 : ℤ) × (lay s v ≡ scale c1 (way m P01) ⊕ scale c2 (way m P02))
+      c = sides-generate m (lay s v) (h .end .tame .unimodular) (sym (lay-dot s (normal m) v) ∙ (rw accepting-normal at e))
+
+      side : (k : ℤ) (a : Vector) → lay s (scale k (a ⊖ m .m0)) ≡ scale k (lay s a ⊖ lay s (m .m0))
+      side k a = lay-scale s (a ⊖ m .m0) k ∙ ap (scale k) (lay-difference s a (m .m0))
 
 -- ---- and of a solid's pick
 module _ (solid : Solid) (bytes : List ℕ) (p : Vector) (frame reach : ℤ) where

@@ -26,6 +26,7 @@ use Rattle.laws.specs.Tests.{first-of, second-of}
 use Rattle.laws.specs.Parts.{Parts}
 use Rattle.laws.specs.Triples.{All}
 use Rattle.laws.specs.Frames.{Signs}
+use Rattle.laws.specs.Looks.{As}
 use Rattle.laws.specs.Ranges.{Between, InCube, WithinEach, step-within}
 
 -- ---- a look and the box
@@ -43,6 +44,18 @@ pub outside-box : (solid : Solid) (bytes : List ℕ) (p : Vector) → look solid
 unfolding isInside
 outside-box solid bytes p e = rw (← look-inside solid bytes p, e) tt
 
+seen-told : (i f b : Bool) → seenAs i f ≡ As b → T i × (f ≡ b)
+seen-told false f true e = absurd (let z : _≡_ {A = ℕ} 0 1 = cc in omega arith)
+seen-told false f false e = absurd (let z : _≡_ {A = ℕ} 0 1 = cc in omega arith)
+seen-told true true true e = (tt, refl)
+seen-told true true false e = absurd (let z : _≡_ {A = ℕ} 0 1 = cc in omega arith)
+seen-told true false true e = absurd (let z : _≡_ {A = ℕ} 0 1 = cc in omega arith)
+seen-told true false false e = (tt, refl)
+
+pub look-told : (solid : Solid) (bytes : List ℕ) (p : Vector) (b : Bool) → look solid bytes p ≡ As b → T (inBox (box solid) p) × (filled solid bytes p ≡ b)
+unfolding look
+look-told solid bytes p b e = seen-told (inBox (box solid) p) (filled solid bytes p) b e
+
 -- ---- cubes
 pub between-yes : (low x high : ℤ) → T (between low x high) → (low ≤ℤ x) × (x ≤ℤ high)
 unfolding between
@@ -54,7 +67,7 @@ in-side M side x h t =
     let high : x <ℤ side = ltZ-yes (second-of (leZ (pos 0) x) (ltZ x side) t) in
     record { low = low; high = omega (arith, parts) }
 
-in-cube : (M : ℕ) (sides p : Vector) → Parts (λ side. side ≤ℤ pos (suc M)) sides → T (inBox sides p) → InCube M p
+pub in-cube : (M : ℕ) (sides p : Vector) → Parts (λ side. side ≤ℤ pos (suc M)) sides → T (inBox sides p) → InCube M p
 unfolding inBox
 in-cube M sides p h t =
     let yz = second-of (inSide (sides .x) (p .x)) (inSide (sides .y) (p .y) && inSide (sides .z) (p .z)) t in

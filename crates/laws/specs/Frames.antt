@@ -31,8 +31,8 @@ signs-are frame = record { ofX = sign-is (frame % 2); ofY = sign-is (frame / 2 %
 
 -- ---- laying in twice is nothing
 twice : (s z : ℤ) → IsSign s → s *ℤ (s *ℤ z) ≡ z
-twice s z (inl e) = rw e (byring (z ∷ []) (search sides depth 40 fits 30000) tt)
-twice s z (inr e) = rw e (byring (z ∷ []) (search sides depth 40 fits 30000) tt)
+twice s z (inl e) = rw e (byring (z ∷ []) (search sides depth 40 fits 5000) tt)
+twice s z (inr e) = rw e (byring (z ∷ []) (search sides depth 40 fits 5000) tt)
 
 pub lay-lay : (s u : Vector) → Signs s → lay s (lay s u) ≡ u
 unfolding lay
@@ -40,29 +40,29 @@ lay-lay s u g = vector-eq (twice (s .x) (u .x) (g .ofX)) (twice (s .y) (u .y) (g
 
 pub lay-dot : (s n u : Vector) → dot (lay s n) u ≡ dot n (lay s u)
 unfolding dot lay
-lay-dot s n u = byring (of3 s n u) (search sides depth 40 fits 30000) tt
+lay-dot s n u = byring (of3 s n u) (search sides depth 40 fits 5000) tt
 
 -- the apex is above the start by the sum of the normal's parts in the frame
 pub dot-apex : (s n p : Vector) → dot n (p ⊕ s) ≡ dot n p +ℤ (lay s n .x +ℤ lay s n .y +ℤ lay s n .z)
 unfolding dot lay _⊕_
-dot-apex s n p = byring (of3 s n p) (search sides depth 40 fits 30000) tt
+dot-apex s n p = byring (of3 s n p) (search sides depth 40 fits 5000) tt
 
 swapped : (s u d : ℤ) → s *ℤ (d *ℤ u) ≡ d *ℤ (s *ℤ u)
-swapped s u d = byring (s ∷ u ∷ d ∷ []) (search sides depth 40 fits 30000) tt
+swapped s u d = byring (s ∷ u ∷ d ∷ []) (search sides depth 40 fits 5000) tt
 
 pub lay-scale : (s u : Vector) (d : ℤ) → lay s (scale d u) ≡ scale d (lay s u)
 unfolding lay scale
 lay-scale s u d = vector-eq (swapped (s .x) (u .x) d) (swapped (s .y) (u .y) d) (swapped (s .z) (u .z) d)
 
 spread : (s a b : ℤ) → s *ℤ (a -ℤ b) ≡ s *ℤ a -ℤ s *ℤ b
-spread s a b = byring (s ∷ a ∷ b ∷ []) (search sides depth 40 fits 30000) tt
+spread s a b = byring (s ∷ a ∷ b ∷ []) (search sides depth 40 fits 5000) tt
 
 pub lay-difference : (s a b : Vector) → lay s (a ⊖ b) ≡ lay s a ⊖ lay s b
 unfolding lay _⊖_
 lay-difference s a b = vector-eq (spread (s .x) (a .x) (b .x)) (spread (s .y) (a .y) (b .y)) (spread (s .z) (a .z) (b .z))
 
 gathered : (s a b : ℤ) → s *ℤ (a +ℤ b) ≡ s *ℤ a +ℤ s *ℤ b
-gathered s a b = byring (s ∷ a ∷ b ∷ []) (search sides depth 40 fits 30000) tt
+gathered s a b = byring (s ∷ a ∷ b ∷ []) (search sides depth 40 fits 5000) tt
 
 pub lay-sum : (s a b : Vector) → lay s (a ⊕ b) ≡ lay s a ⊕ lay s b
 unfolding lay _⊕_

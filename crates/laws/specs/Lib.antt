@@ -2,6 +2,7 @@
 pub mod Tests
 pub mod Parts
 pub mod Triples
+pub mod Tame
 pub mod Sphere
 pub mod Choosing
 pub mod Says

@@ -34,31 +34,35 @@ of3 a b c = a .x ∷ a .y ∷ a .z ∷ of2 b c
 -- ---- products with a vector
 pub dot-sum : (n a b : Vector) → dot n (a ⊕ b) ≡ dot n a +ℤ dot n b
 unfolding dot _⊕_
-dot-sum n a b = byring (of3 n a b) (search sides depth 40 fits 30000) tt
+dot-sum n a b = byring (of3 n a b) (search sides depth 40 fits 5000) tt
 
 pub dot-difference : (n a b : Vector) → dot n (a ⊖ b) ≡ dot n a -ℤ dot n b
 unfolding dot _⊖_
-dot-difference n a b = byring (of3 n a b) (search sides depth 40 fits 30000) tt
+dot-difference n a b = byring (of3 n a b) (search sides depth 40 fits 5000) tt
 
 pub dot-minus : (n a : Vector) → dot n (minus a) ≡ negℤ (dot n a)
 unfolding dot minus
-dot-minus n a = byring (of2 n a) (search sides depth 40 fits 30000) tt
+dot-minus n a = byring (of2 n a) (search sides depth 40 fits 5000) tt
 
 pub dot-scale : (n a : Vector) (l : ℤ) → dot n (scale l a) ≡ l *ℤ dot n a
 unfolding dot scale
-dot-scale n a l = byring (l ∷ of2 n a) (search sides depth 40 fits 30000) tt
+dot-scale n a l = byring (l ∷ of2 n a) (search sides depth 40 fits 5000) tt
+
+pub scale-dot : (n a : Vector) (l : ℤ) → dot (scale l n) a ≡ l *ℤ dot n a
+unfolding dot scale
+scale-dot n a l = byring (l ∷ of2 n a) (search sides depth 40 fits 5000) tt
 
 pub dot-unit0 : (n : Vector) → dot n unit0 ≡ n .x
 unfolding dot
-dot-unit0 n = byring (n .x ∷ n .y ∷ n .z ∷ []) (search sides depth 40 fits 30000) tt
+dot-unit0 n = byring (n .x ∷ n .y ∷ n .z ∷ []) (search sides depth 40 fits 5000) tt
 
 pub dot-unit1 : (n : Vector) → dot n unit1 ≡ n .y
 unfolding dot
-dot-unit1 n = byring (n .x ∷ n .y ∷ n .z ∷ []) (search sides depth 40 fits 30000) tt
+dot-unit1 n = byring (n .x ∷ n .y ∷ n .z ∷ []) (search sides depth 40 fits 5000) tt
 
 pub dot-unit2 : (n : Vector) → dot n unit2 ≡ n .z
 unfolding dot
-dot-unit2 n = byring (n .x ∷ n .y ∷ n .z ∷ []) (search sides depth 40 fits 30000) tt
+dot-unit2 n = byring (n .x ∷ n .y ∷ n .z ∷ []) (search sides depth 40 fits 5000) tt
 
 pub scale-one : (a : Vector) → scale (pos 1) a ≡ a
 unfolding scale

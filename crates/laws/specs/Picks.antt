@@ -14,12 +14,12 @@ use Rattle.rules.specs.declared.Look.{Look}
 use Rattle.rules.specs.declared.Look.the-variants.{Outside}
 use Rattle.rules.specs.declared.Triangle.{Triangle}
 use Rattle.rules.specs.declared.Pair.{Pair}
-use Rattle.rules.specs.Vectors.{_⊕_, lay, size, unit0, unit1, unit2}
+use Rattle.rules.specs.Vectors.{_⊕_, minus, lay, size, unit0, unit1, unit2}
 use Rattle.rules.specs.Solids.{between}
 use Rattle.rules.specs.Walk.{Stop, stop, signs, powers, units, way, pairs, normal, keep, Found, found, start, rounds}
 use Rattle.rules.specs.Pick.{pick}
 use Rattle.laws.specs.Tests.{Each}
-use Rattle.laws.specs.Triples.{Tame, units-tame, step-tame}
+use Rattle.laws.specs.Tame.{Tame, units-tame, step-tame}
 use Rattle.laws.specs.Choosing.{choice-exists}
 use Rattle.laws.specs.Says.{Says, says-answer, says-weaker, says-bind, says-asked, says-ensure}
 use Rattle.laws.specs.Looks.{IsOutside, Fell, FellOf, look-says, axes-says}
@@ -35,6 +35,10 @@ pub record Told (look : Vector → Look) (B : ℕ) (r : Stop) : Type 0 where
 module _ (look : Vector → Look) (B : ℕ) where
   other-than-8 : (number : ℕ) (p : Vector) (n : ℕ) → (number ≡ 8 → ⊥) → n ≤ B → Told look B (stop number p n)
   other-than-8 number p n h k = record { fewSteps = k; outside = λ e. absurd (h e) }
+
+  -- before the first step
+  refuse : (number : ℕ) (p : Vector) → (number ≡ 8 → ⊥) → Told look B (stop number p 0)
+  refuse number p h = other-than-8 number p 0 h (omega arith)
 
   at-outside : (p : Vector) (n : ℕ) → n ≤ B → IsOutside look p → Told look B (stop 8 p n)
   at-outside p n k o = record { fewSteps = k; outside = λ _. o }
@@ -74,15 +78,15 @@ module _ (look : Vector → Look) (p q s : Vector) (R : ℕ) where
   start-says : Says (λ _. Unit {0}) (Told look (R - 3)) (1 + (1 + 3 * length (powers R))) (start look s p q R)
   unfolding start
   start-says =
-      says-bind _ _ (says-asked 0 _ out (look-says look p)) (λ f _. says-ensure f _ _ (λ _. refuse 5 p (omega arith)) (λ _.
-      says-bind _ _ (says-asked 0 _ out (look-says look q)) (λ f _. says-ensure (not f) _ _ (λ _. refuse 6 q (omega arith)) (λ _.
-      axes-says look q s (powers R) (Told look (R - 3)) out (unit0 ∷ unit1 ∷ unit2 ∷ []) ((λ _. refuse 7 _ (omega arith)), ((λ _. refuse 7 _ (omega arith)), ((λ _. refuse 7 _ (omega arith)), tt)))))))
+      says-bind _ _ (says-asked 0 _ out (look-says look p)) (λ f _. says-ensure f _ _ (λ _. refuse look (R - 3) 5 p (omega arith)) (λ _.
+      says-bind _ _ (says-asked 0 _ out (look-says look q)) (λ f _. says-ensure (not f) _ _ (λ _. refuse look (R - 3) 6 q (omega arith)) (λ _.
+      axes-says look q s (powers R) (Told look (R - 3)) out (unit0 ∷ unit1 ∷ unit2 ∷ []) (seven unit0, (seven unit1, (seven unit2, tt)))))))
     where
       out : (p : Vector) → IsOutside look p → Told look (R - 3) (stop 8 p 0)
       out p o = at-outside look (R - 3) p 0 (omega arith) o
 
-      refuse : (number : ℕ) (p : Vector) → (number ≡ 8 → ⊥) → Told look (R - 3) (stop number p 0)
-      refuse number p h = other-than-8 look (R - 3) number p 0 h (omega arith)
+      seven : (e : Vector) → Fell look q (lay s (minus e)) (powers R) false → Told look (R - 3) (stop 7 (q ⊕ lay s (minus e)) 0)
+      seven e _ = refuse look (R - 3) 7 _ (omega arith)
 
   rounds-says : Says (Accepting look q s R) (Told look (R - 3)) (suc (R - 3) * (6 * length (powers R)) + 0) (rounds look s q R)
   unfolding rounds
@@ -116,14 +120,11 @@ module _ (ok : Bool) (look : Vector → Look) (p : Vector) (frame reach : ℤ) w
   pub pick-says : (N : ℕ) → (3 ≤ R → R ≤ 256 → 2 + length (powers R) * (6 * R - 9) ≤ N) → Says Picked (Told look (R - 3)) N (pick ok look p frame reach)
   unfolding pick
   pick-says N few =
-      says-ensure _ _ _ (λ _. refuse 1 _ (omega arith)) (λ reached.
-      says-ensure _ _ _ (λ _. refuse 2 _ (omega arith)) (λ framed.
-      says-ensure _ _ _ (λ _. refuse 3 _ (omega arith)) (λ permitted.
-      says-ensure _ _ _ (λ _. refuse 4 _ (omega arith)) (λ _.
-      says-ensure _ _ _ (λ _. refuse 4 _ (omega arith)) (λ _.
+      says-ensure _ _ _ (λ _. refuse look (R - 3) 1 _ (omega arith)) (λ reached.
+      says-ensure _ _ _ (λ _. refuse look (R - 3) 2 _ (omega arith)) (λ framed.
+      says-ensure _ _ _ (λ _. refuse look (R - 3) 3 _ (omega arith)) (λ permitted.
+      says-ensure _ _ _ (λ _. refuse look (R - 3) 4 _ (omega arith)) (λ _.
+      says-ensure _ _ _ (λ _. refuse look (R - 3) 4 _ (omega arith)) (λ _.
       let r = permitted-reach reach reached in
       says-weaker _ (λ f a. record { permittedReach = reached; permittedFrame = framed; permittedSolid = permitted; accepting = a }) (omega (arith, looks-add-up (length (powers R)) R (r .0), few (r .0) (r .1)))
       (says-bind _ _ (start-says look p (p ⊕ s) s R) (λ _ _. rounds-says look p (p ⊕ s) s R)))))))
-    where
-      refuse : (number : ℕ) (p : Vector) → (number ≡ 8 → ⊥) → Told look (R - 3) (stop number p 0)
-      refuse number p h = other-than-8 look (R - 3) number p 0 h (omega arith)

@@ -1,5 +1,5 @@
--- Ranges, on any look whose box lies in a cube. A round that was answered looked at power 1 of every way inside the box, so each way is within the cube's side,
--- and so is each triangle vector after a step. Looked at both ways from q, it is within half the side.
+-- Ranges, on any look whose box lies in a cube. A round that was answered looked at power 1 of every way inside the box, where q is too,
+-- so each way is within the cube's side, and so is the triangle vector that a step puts in.
 use mathlib.Core.Path.{_≡_, refl, subst}
 use mathlib.Core.Logic.{inl, inr}
 use mathlib.Core.Bool.{Bool, true, false}
@@ -79,7 +79,7 @@ module _ (look : Vector → Look) (q : Vector) where
 -- ---- numbers
 near : (M : ℕ) (q s d : ℤ) → IsSign s → Between M q → Between M (q +ℤ pos 1 *ℤ (s *ℤ d)) → Within M d
 near M q s d g h k =
-    let e : q +ℤ pos 1 *ℤ (s *ℤ d) ≡ q +ℤ s *ℤ d = byring (q ∷ s ∷ d ∷ []) (search sides depth 40 fits 30000) tt in
+    let e : q +ℤ pos 1 *ℤ (s *ℤ d) ≡ q +ℤ s *ℤ d = byring (q ∷ s ∷ d ∷ []) (search sides depth 40 fits 5000) tt in
     let x = atom q in let y = atom (s *ℤ d) in
     let low = fact (search linear) (rw e at (k .low)) in
     let high = fact (search linear) (rw e at (k .high)) in

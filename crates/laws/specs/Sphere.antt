@@ -26,31 +26,31 @@ power m a = detOf m *ℤ dot a a +ℤ spread m a
 split : (m : Triangle) (a b : Vector)
     → detOf m *ℤ sphere (m .m0 ⊖ m .m1) (m .m0 ⊖ m .m2) (m .m0 ⊕ a) (m .m0 ⊕ b) ≡ dot (normal m) (m .m0 ⊕ a) *ℤ power m b -ℤ dot (normal m) (m .m0 ⊕ b) *ℤ power m a
 unfolding power spread det dot cross sphere _⊕_ _⊖_ normal
-split m a b = byring (a .x ∷ a .y ∷ a .z ∷ b .x ∷ b .y ∷ b .z ∷ of9 m) (search sides depth 60 fits 40000) tt
+split m a b = byring (a .x ∷ a .y ∷ a .z ∷ b .x ∷ b .y ∷ b .z ∷ of9 m) (search sides depth 40 fits 5000) tt
 
 over-way : (m : Triangle) (x : Pair) → dot (normal m) (m .m0 ⊕ way m x) ≡ detOf m
 over-way m x =
     rw (dot-sum (normal m) (m .m0) (way m x), dot-difference (normal m) (second m x) (first m x), normal-dot m .of0, all-first (normal-dot m) x, all-second (normal-dot m) x)
-    (byring (detOf m ∷ []) (search sides depth 40 fits 30000) tt)
+    (byring (detOf m ∷ []) (search sides depth 40 fits 5000) tt)
 
 spread-difference : (m : Triangle) (a b : Vector) → spread m (a ⊖ b) ≡ spread m a -ℤ spread m b
 unfolding spread
 spread-difference m a b =
     rw (dot-difference (crosses m .m0) a b, dot-difference (crosses m .m1) a b, dot-difference (crosses m .m2) a b)
-    (byring (dot (m .m0) (m .m0) ∷ dot (m .m1) (m .m1) ∷ dot (m .m2) (m .m2) ∷ dot (crosses m .m0) a ∷ dot (crosses m .m1) a ∷ dot (crosses m .m2) a ∷ dot (crosses m .m0) b ∷ dot (crosses m .m1) b ∷ dot (crosses m .m2) b ∷ []) (search sides depth 40 fits 30000) tt)
+    (byring (dot (m .m0) (m .m0) ∷ dot (m .m1) (m .m1) ∷ dot (m .m2) (m .m2) ∷ dot (crosses m .m0) a ∷ dot (crosses m .m1) a ∷ dot (crosses m .m2) a ∷ dot (crosses m .m0) b ∷ dot (crosses m .m1) b ∷ dot (crosses m .m2) b ∷ []) (search sides depth 40 fits 5000) tt)
 
 spread-at : (m : Triangle) → All (λ a. spread m a ≡ detOf m *ℤ dot a a) m
 unfolding spread det dot cross
 spread-at m = record {
-  of0 = byring (of9 m) (search sides depth 40 fits 30000) tt;
-  of1 = byring (of9 m) (search sides depth 40 fits 30000) tt;
-  of2 = byring (of9 m) (search sides depth 40 fits 30000) tt;
+  of0 = byring (of9 m) (search sides depth 40 fits 5000) tt;
+  of1 = byring (of9 m) (search sides depth 40 fits 5000) tt;
+  of2 = byring (of9 m) (search sides depth 40 fits 5000) tt;
 }
 
 -- (b - a)² + b² - a² = 2 b·(b - a)
 twice : (d : ℤ) (a b : Vector) → d *ℤ dot (b ⊖ a) (b ⊖ a) +ℤ (d *ℤ dot b b -ℤ d *ℤ dot a a) ≡ pos 2 *ℤ d *ℤ dot b (b ⊖ a)
 unfolding dot _⊖_
-twice d a b = byring (d ∷ of2 a b) (search sides depth 40 fits 30000) tt
+twice d a b = byring (d ∷ of2 a b) (search sides depth 40 fits 5000) tt
 
 power-way : (m : Triangle) (x : Pair) → power m (way m x) ≡ pos 2 *ℤ detOf m *ℤ g m x
 unfolding power
@@ -60,4 +60,4 @@ pub determinant-is : (m : Triangle) (x y : Pair) → detOf m ≡ pos 1 → deter
 unfolding determinant
 determinant-is m x y d =
     by-eq (pos 1) (rw (over-way m x, over-way m y, power-way m x, power-way m y, d) at (split m (way m x) (way m y)))
-    (byring (sphere (m .m0 ⊖ m .m1) (m .m0 ⊖ m .m2) (m .m0 ⊕ way m x) (m .m0 ⊕ way m y) ∷ g m x ∷ g m y ∷ []) (search sides depth 40 fits 30000) tt)
+    (byring (sphere (m .m0 ⊖ m .m1) (m .m0 ⊖ m .m2) (m .m0 ⊕ way m x) (m .m0 ⊕ way m y) ∷ g m x ∷ g m y ∷ []) (search sides depth 40 fits 5000) tt)

@@ -51,7 +51,7 @@ no-size (pos k) e = ap pos e
 no-size (negsuc k) e = absurd (omega arith)
 
 backward : (l q s a b : ℤ) → q +ℤ l *ℤ (s *ℤ (a -ℤ b)) ≡ q -ℤ l *ℤ (s *ℤ (b -ℤ a))
-backward l q s a b = byring (l ∷ q ∷ s ∷ a ∷ b ∷ []) (search sides depth 40 fits 30000) tt
+backward l q s a b = byring (l ∷ q ∷ s ∷ a ∷ b ∷ []) (search sides depth 40 fits 5000) tt
 
 half : (q d : ℤ) → Between 255 (q +ℤ d) → Between 255 (q -ℤ d) → Within 127 d
 half q d h k =
@@ -73,7 +73,7 @@ flat m a b c =
     by-eq (m .m2 .y *ℤ m .m0 .z -ℤ m .m2 .z *ℤ m .m0 .y) a
     (by-eq (m .m2 .z *ℤ m .m0 .x -ℤ m .m2 .x *ℤ m .m0 .z) b
     (by-eq (m .m2 .x *ℤ m .m0 .y -ℤ m .m2 .y *ℤ m .m0 .x) c
-    (byring (of9 m) (search sides depth 40 fits 30000) tt)))
+    (byring (of9 m) (search sides depth 40 fits 5000) tt)))
 
 module _ (look : Vector → Look) (box : (p : Vector) → T (isInside (look p)) → InCube 255 p) (q s : Vector) (signed : Signs s) where
   too-far : (ls : List ℕ) (B : ℕ) (e : Triangle × ℕ) → Reaches 128 ls → End look q s ls B e → ⊥

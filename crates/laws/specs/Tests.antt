@@ -48,7 +48,3 @@ Each P (x ∷ xs) = P x × Each P xs
 abbrev pub In : {A : Type 0} → A → List A → Type 0
 In y [] = ⊥
 In y (x ∷ xs) = (y ≡ x) ⊎ In y xs
-
-pub each-map : {A : Type 0} {P Q : A → Type 0} (xs : List A) → ((x : A) → P x → Q x) → Each P xs → Each Q xs
-each-map [] f h = tt
-each-map (x ∷ xs) f h = (f x (h .0), each-map xs f (h .1))

@@ -14,24 +14,26 @@ use Rattle.rules.specs.declared.Solid.the-variants.{Stack as IsStack}
 use Rattle.rules.specs.declared.Stack.{Stack}
 use Rattle.rules.specs.declared.Triangle.{Triangle}
 use Rattle.rules.specs.declared.Pair.{Pair}
+use Rattle.rules.specs.declared.Pair.the-variants.{P01, P02}
 use Rattle.rules.specs.declared.Choice.{Choice}
 use Rattle.rules.specs.declared.Choice.the-variants.{Nothing}
 use Rattle.rules.specs.declared.Accepted.{Accepted as AcceptedPick}
 use Rattle.rules.specs.declared.Refused.{Refused as RefusedPick}
 use Rattle.rules.specs.declared.Pick.the-variants.{Accepted, Refused}
-use Rattle.rules.specs.Vectors.{dot, lay}
+use Rattle.rules.specs.Vectors.{_⊕_, scale, dot, lay}
 use Rattle.rules.specs.Solids.{box, inBox, permitted, look}
 use Rattle.rules.specs.Asked.{answered}
 use Rattle.rules.specs.Walk.{signs, powers, units, second, way, step, determinant, inside, choice, round}
 use Rattle.rules.specs.Pick.{isInside, pickOf}
 use Rattle.laws.specs.Parts.{Positive}
-use Rattle.laws.specs.Triples.{All, detOf}
+use Rattle.laws.specs.Triples.{All, detOf, step-det}
+use Rattle.laws.specs.Tame.{units-tame}
 use Rattle.laws.specs.Choosing as Choosing
 use Rattle.laws.specs.Frames.{signs-are}
 use Rattle.laws.specs.Powers as Powers
 use Rattle.laws.specs.Powers.{UpTo, few-looks}
 use Rattle.laws.specs.Boxes.{outside-box}
-use Rattle.laws.specs.Answers.{laid, stepsOf, looksOf, told-accepted, told-refused, told-steps, told-looks, accepting-determinant, accepting-products, accepting-signs}
+use Rattle.laws.specs.Answers.{laid, stepsOf, looksOf, told-accepted, told-refused, told-steps, told-looks, accepting-determinant, accepting-products, accepting-sides, accepting-signs}
 use Rattle.laws.specs.Stacks as Stacks
 use Rattle.laws.specs.Sphere as Sphere
 use Rattle.laws.specs.Choosing.{best}
@@ -42,6 +44,13 @@ use Rattle.laws.specs.Frames.{Signs}
 -- ---- the powers are 1, 2, 4, .. up to the first that is at least R
 pub powers-reach : (R : ℕ) → UpTo R 1 (powers R)
 powers-reach = Powers.powers-reach
+
+-- ---- the triangle's determinant is 1 at the beginning, and every step keeps it
+pub units-determinant : detOf units ≡ pos 1
+units-determinant = units-tame .unimodular
+
+pub step-determinant : (m : Triangle) (x : Pair) → detOf (step m x) ≡ detOf m
+step-determinant = step-det
 
 -- ---- the choice: document 01's determinant is twice a difference, so strictly inside is a smaller m_l·(m_l - m_k)
 pub determinant-is : (m : Triangle) (x y : Pair) → detOf m ≡ pos 1 → determinant m x y ≡ pos 2 *ℤ (dot (second m y) (way m y) -ℤ dot (second m x) (way m x))
@@ -92,6 +101,10 @@ module _ (solid : Solid) (bytes : List ℕ) (p : Vector) (frame reach : ℤ) whe
 
     pub accepted-products : All (λ m. dot (a .normal) m ≡ pos 1) (a .triangle)
     accepted-products = accepting-products (told-accepted solid bytes p frame reach a is .accepting) (signs-are (natAbs frame))
+
+    -- ---- its sides generate every whole vector of the plane
+    pub accepted-sides : (v : Vector) → dot (a .normal) v ≡ pos 0 → (c1 : ℤ) × (c2 : ℤ) × (v ≡ scale c1 (way (a .triangle) P01) ⊕ scale c2 (way (a .triangle) P02))
+    accepted-sides = accepting-sides (told-accepted solid bytes p frame reach a is .accepting) (signs-are (natAbs frame))
 
     -- ---- an accepted normal has the frame's signs
     pub accepted-signs : Positive (lay s (a .normal))

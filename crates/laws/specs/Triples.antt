@@ -1,23 +1,16 @@
 -- Triples of whole vectors. A step is a row operation, so the determinant stays 1. The cross products b0 = m1×m2, b1 = m2×m0, b2 = m0×m1 are the
--- inverse's columns: v = Σ (b_k·v) m_k and n·m_k = det for their sum n, the normal. A step (k, l) adds b_k to b_l and changes no other, so
--- no part of any becomes negative, and each part of the normal is at least 1.
-use mathlib.Core.Path.{_≡_, refl, sym, _∙_}
-use mathlib.Core.Logic.{_⊎_, inl, inr}
+-- inverse's columns: v = Σ (b_k·v) m_k, and their sum, the normal, has product 1 with each m_k. So the sides generate the plane of the normal.
+use mathlib.Core.Path.{_≡_, sym, _∙_}
 use mathlib.Core.List.{List, [], _∷_}
-use Prim.Native.Nat.{ℕ}
-use native.Mathlib.Omega.{arith}
-use lib.IntN.{ℤ, pos, _+ℤ_, _*ℤ_}
-use lib.Signed.{_≤ℤ_, _<ℤ_}
-use Rattle.integers.specs.Reify.{byring, sides}
-use Rattle.integers.specs.Order.{parts, linear, atom, goal, fact}
+use lib.IntN.{ℤ, pos, _+ℤ_, _-ℤ_, _*ℤ_}
+use Rattle.integers.specs.Reify.{byring, sides, by-eq}
 use Rattle.rules.specs.declared.Vector.{Vector}
 use Rattle.rules.specs.declared.Triangle.{Triangle}
 use Rattle.rules.specs.declared.Pair.{Pair}
 use Rattle.rules.specs.declared.Pair.the-variants.{P01, P02, P10, P12, P20, P21}
-use Rattle.rules.specs.Vectors.{vector, _⊕_, _⊖_, scale, dot, cross, det}
-use Rattle.rules.specs.Walk.{triangle, units, first, second, with, step, normal}
-use Rattle.laws.specs.Tests.{compared}
-use Rattle.laws.specs.Parts.{vector-eq, NonNegative, Positive, of2, of3}
+use Rattle.rules.specs.Vectors.{_⊕_, _⊖_, scale, dot, cross, det}
+use Rattle.rules.specs.Walk.{triangle, first, second, way, with, step, normal}
+use Rattle.laws.specs.Parts.{vector-eq, of2, of3, scale-one}
 
 -- ---- P of each triangle vector, and so of m_k, of m_l and of a triangle with a new m_k
 pub record All (P : Vector → Type 0) (m : Triangle) : Type 0 where
@@ -62,128 +55,75 @@ of12 m a = a .x ∷ a .y ∷ a .z ∷ of9 m
 
 pub step-det : (m : Triangle) (x : Pair) → detOf (step m x) ≡ detOf m
 unfolding det dot cross _⊖_
-step-det m P01 = byring (of9 m) (search sides depth 40 fits 30000) tt
-step-det m P02 = byring (of9 m) (search sides depth 40 fits 30000) tt
-step-det m P10 = byring (of9 m) (search sides depth 40 fits 30000) tt
-step-det m P12 = byring (of9 m) (search sides depth 40 fits 30000) tt
-step-det m P20 = byring (of9 m) (search sides depth 40 fits 30000) tt
-step-det m P21 = byring (of9 m) (search sides depth 40 fits 30000) tt
+step-det m P01 = byring (of9 m) (search sides depth 40 fits 5000) tt
+step-det m P02 = byring (of9 m) (search sides depth 40 fits 5000) tt
+step-det m P10 = byring (of9 m) (search sides depth 40 fits 5000) tt
+step-det m P12 = byring (of9 m) (search sides depth 40 fits 5000) tt
+step-det m P20 = byring (of9 m) (search sides depth 40 fits 5000) tt
+step-det m P21 = byring (of9 m) (search sides depth 40 fits 5000) tt
 
 pub normal-dot : (m : Triangle) → All (λ a. dot (normal m) a ≡ detOf m) m
 unfolding det dot cross normal _⊕_
 normal-dot m = record {
-  of0 = byring (of9 m) (search sides depth 40 fits 30000) tt;
-  of1 = byring (of9 m) (search sides depth 40 fits 30000) tt;
-  of2 = byring (of9 m) (search sides depth 40 fits 30000) tt;
+  of0 = byring (of9 m) (search sides depth 40 fits 5000) tt;
+  of1 = byring (of9 m) (search sides depth 40 fits 5000) tt;
+  of2 = byring (of9 m) (search sides depth 40 fits 5000) tt;
 }
 
 -- ---- the cross products
 abbrev pub crosses : Triangle → Triangle
 crosses m = triangle (cross (m .m1) (m .m2)) (cross (m .m2) (m .m0)) (cross (m .m0) (m .m1))
 
--- a v that is Σ c_k a_k
+-- a m0 + b m1 + c m2
 abbrev pub combined : Triangle → ℤ → ℤ → ℤ → Vector
 combined m a b c = scale a (m .m0) ⊕ scale b (m .m1) ⊕ scale c (m .m2)
 
 pub expand : (m : Triangle) (v : Vector) → scale (detOf m) v ≡ combined m (dot (crosses m .m0) v) (dot (crosses m .m1) v) (dot (crosses m .m2) v)
 unfolding det dot cross scale _⊕_
 expand m v = vector-eq
-    (byring (of12 m v) (search sides depth 40 fits 30000) tt)
-    (byring (of12 m v) (search sides depth 40 fits 30000) tt)
-    (byring (of12 m v) (search sides depth 40 fits 30000) tt)
+    (byring (of12 m v) (search sides depth 40 fits 5000) tt)
+    (byring (of12 m v) (search sides depth 40 fits 5000) tt)
+    (byring (of12 m v) (search sides depth 40 fits 5000) tt)
 
 pub expand-crosses : (m : Triangle) (v : Vector) → scale (detOf m) v ≡ combined (crosses m) (dot v (m .m0)) (dot v (m .m1)) (dot v (m .m2))
 unfolding det dot cross scale _⊕_
 expand-crosses m v = vector-eq
-    (byring (of12 m v) (search sides depth 40 fits 30000) tt)
-    (byring (of12 m v) (search sides depth 40 fits 30000) tt)
-    (byring (of12 m v) (search sides depth 40 fits 30000) tt)
+    (byring (of12 m v) (search sides depth 40 fits 5000) tt)
+    (byring (of12 m v) (search sides depth 40 fits 5000) tt)
+    (byring (of12 m v) (search sides depth 40 fits 5000) tt)
 
--- the pair (l, k)
-abbrev pub turned : Pair → Pair
-turned P01 = P10
-turned P02 = P20
-turned P10 = P01
-turned P12 = P21
-turned P20 = P02
-turned P21 = P12
+-- ---- a vector whose products with m0, m1 and m2 are equal is a multiple of the normal
+together : (a x y z : ℤ) → a *ℤ x +ℤ a *ℤ y +ℤ a *ℤ z ≡ a *ℤ (z +ℤ x +ℤ y)
+together a x y z = byring (a ∷ x ∷ y ∷ z ∷ []) (search sides depth 40 fits 5000) tt
 
-cross-right : (a b c : Vector) → cross a (b ⊖ c) ≡ cross c a ⊕ cross a b
-unfolding cross _⊕_ _⊖_
-cross-right a b c = vector-eq (byring (of3 a b c) (search sides depth 40 fits 30000) tt) (byring (of3 a b c) (search sides depth 40 fits 30000) tt) (byring (of3 a b c) (search sides depth 40 fits 30000) tt)
+combined-same : (b : Triangle) (a : ℤ) → combined b a a a ≡ scale a (b .m2 ⊕ b .m0 ⊕ b .m1)
+unfolding scale _⊕_
+combined-same b a = vector-eq (together a (b .m0 .x) (b .m1 .x) (b .m2 .x)) (together a (b .m0 .y) (b .m1 .y) (b .m2 .y)) (together a (b .m0 .z) (b .m1 .z) (b .m2 .z))
 
-cross-left : (a b c : Vector) → cross (b ⊖ c) a ≡ cross a c ⊕ cross b a
-unfolding cross _⊕_ _⊖_
-cross-left a b c = vector-eq (byring (of3 a b c) (search sides depth 40 fits 30000) tt) (byring (of3 a b c) (search sides depth 40 fits 30000) tt) (byring (of3 a b c) (search sides depth 40 fits 30000) tt)
+pub equal-products : (n : Vector) (m : Triangle) → detOf m ≡ pos 1 → dot n (m .m1) ≡ dot n (m .m0) → dot n (m .m2) ≡ dot n (m .m0) → n ≡ scale (dot n (m .m0)) (normal m)
+unfolding normal
+equal-products n m d e f = sym (scale-one n) ∙ (rw (d, e, f) at (expand-crosses m n)) ∙ combined-same (crosses m) (dot n (m .m0))
 
-same-left : (a b : Vector) → cross (a ⊖ b) b ≡ cross a b
-unfolding cross _⊖_
-same-left a b = vector-eq (byring (of2 a b) (search sides depth 40 fits 30000) tt) (byring (of2 a b) (search sides depth 40 fits 30000) tt) (byring (of2 a b) (search sides depth 40 fits 30000) tt)
+-- ---- the sides generate every whole vector of the plane
+normal-parts : (m : Triangle) (v : Vector) → dot (normal m) v ≡ dot (crosses m .m0) v +ℤ dot (crosses m .m1) v +ℤ dot (crosses m .m2) v
+unfolding dot normal _⊕_ cross
+normal-parts m v = byring (of12 m v) (search sides depth 40 fits 5000) tt
 
-same-right : (a b : Vector) → cross b (a ⊖ b) ≡ cross b a
-unfolding cross _⊖_
-same-right a b = vector-eq (byring (of2 a b) (search sides depth 40 fits 30000) tt) (byring (of2 a b) (search sides depth 40 fits 30000) tt) (byring (of2 a b) (search sides depth 40 fits 30000) tt)
+leaning : (a b c x y z : ℤ) → a +ℤ b +ℤ c ≡ pos 0 → a *ℤ x +ℤ b *ℤ y +ℤ c *ℤ z ≡ b *ℤ (y -ℤ x) +ℤ c *ℤ (z -ℤ x)
+leaning a b c x y z e = by-eq x e (byring (a ∷ b ∷ c ∷ x ∷ y ∷ z ∷ []) (search sides depth 40 fits 5000) tt)
 
-triangle-eq : {a b c d e f : Vector} → a ≡ d → b ≡ e → c ≡ f → triangle a b c ≡ triangle d e f
-triangle-eq p q r = λ i. record { m0 = p i; m1 = q i; m2 = r i }
-
--- b_l becomes b_k + b_l
-pub step-crosses : (m : Triangle) (x : Pair) → crosses (step m x) ≡ with (crosses m) (turned x) (first (crosses m) x ⊕ second (crosses m) x)
-step-crosses m P01 = triangle-eq refl (cross-right (m .m2) (m .m0) (m .m1)) (same-left (m .m0) (m .m1))
-step-crosses m P02 = triangle-eq refl (same-right (m .m0) (m .m2)) (cross-left (m .m1) (m .m0) (m .m2))
-step-crosses m P10 = triangle-eq (cross-left (m .m2) (m .m1) (m .m0)) refl (same-right (m .m1) (m .m0))
-step-crosses m P12 = triangle-eq (same-left (m .m1) (m .m2)) refl (cross-right (m .m0) (m .m1) (m .m2))
-step-crosses m P20 = triangle-eq (cross-right (m .m1) (m .m2) (m .m0)) (same-left (m .m2) (m .m0)) refl
-step-crosses m P21 = triangle-eq (same-right (m .m2) (m .m1)) (cross-left (m .m0) (m .m2) (m .m1)) refl
-
--- ---- what every step keeps, on every solid
-pub record Tame (m : Triangle) : Type 0 where
-  pub unimodular : detOf m ≡ pos 1
-  pub upward : All NonNegative (crosses m)
-
-sum-upward : {a b : ℤ} → pos 0 ≤ℤ a → pos 0 ≤ℤ b → pos 0 ≤ℤ (a +ℤ b)
-sum-upward {a} {b} h k = let x = atom a in let y = atom b in goal (search linear) (omega (arith, parts))
-
-both-upward : {a b : Vector} → NonNegative a → NonNegative b → NonNegative (a ⊕ b)
-unfolding _⊕_
-both-upward h k = record { ofX = sum-upward (h .ofX) (k .ofX); ofY = sum-upward (h .ofY) (k .ofY); ofZ = sum-upward (h .ofZ) (k .ofZ) }
-
-naturals : (a b c : ℕ) → NonNegative (vector (pos a) (pos b) (pos c))
-naturals a b c = record { ofX = omega (arith, parts); ofY = omega (arith, parts); ofZ = omega (arith, parts) }
-
-pub units-tame : Tame units
-unfolding det dot cross
-units-tame = record { unimodular = refl; upward = record { of0 = naturals 1 0 0; of1 = naturals 0 1 0; of2 = naturals 0 0 1 } }
-
-pub step-tame : (m : Triangle) (x : Pair) → Tame m → Tame (step m x)
-step-tame m x t = record {
-  unimodular = step-det m x ∙ t .unimodular;
-  upward = rw (step-crosses m x) (all-with (t .upward) (turned x) (both-upward (all-first (t .upward) x) (all-second (t .upward) x)));
-}
-
--- ---- each part of the normal is at least 1
-all-zero : (x y z : ℤ) → pos 0 *ℤ x +ℤ pos 0 *ℤ y +ℤ pos 0 *ℤ z ≡ pos 0
-all-zero x y z = byring (x ∷ y ∷ z ∷ []) (search sides depth 40 fits 30000) tt
-
-not-all-zero : (a b c x y z : ℤ) {d : ℤ} → d ≡ pos 1 → a *ℤ x +ℤ b *ℤ y +ℤ c *ℤ z ≡ d → pos 0 ≤ℤ a → pos 0 ≤ℤ b → pos 0 ≤ℤ c → pos 1 ≤ℤ (c +ℤ a +ℤ b)
-not-all-zero a b c x y z one e ha hb hc = go (compared (c +ℤ a +ℤ b) (pos 1))
+pub sides-generate : (m : Triangle) (v : Vector) → detOf m ≡ pos 1 → dot (normal m) v ≡ pos 0 → (c1 : ℤ) × (c2 : ℤ) × (v ≡ scale c1 (way m P01) ⊕ scale c2 (way m P02))
+unfolding scale _⊕_ _⊖_
+sides-generate m v d e = (b, c, sym (scale-one v) ∙ (rw d at (expand m v)) ∙ vector-eq (leaning a b c (m .m0 .x) (m .m1 .x) (m .m2 .x) none) (leaning a b c (m .m0 .y) (m .m1 .y) (m .m2 .y) none) (leaning a b c (m .m0 .z) (m .m1 .z) (m .m2 .z) none))
   where
-    go : ((c +ℤ a +ℤ b) <ℤ pos 1) ⊎ (pos 1 ≤ℤ (c +ℤ a +ℤ b)) → pos 1 ≤ℤ (c +ℤ a +ℤ b)
-    go (inr h) = h
-    go (inl h) =
-        let u = atom a in let v = atom b in let w = atom c in
-        let f = fact (search linear) h in
-        let a0 : a ≡ pos 0 = omega (arith, parts) in
-        let b0 : b ≡ pos 0 = omega (arith, parts) in
-        let c0 : c ≡ pos 0 = omega (arith, parts) in
-        absurd (omega (arith, parts, sym (all-zero x y z) ∙ (rw (a0, b0, c0) at (e ∙ one))))
+    a : ℤ
+    a = dot (crosses m .m0) v
 
-pub tame-normal : (m : Triangle) → Tame m → Positive (normal m)
-unfolding normal _⊕_ det dot cross
-tame-normal m t =
-    let b = crosses m in let up = t .upward in
-    record {
-      ofX = not-all-zero (b .m0 .x) (b .m1 .x) (b .m2 .x) (m .m0 .x) (m .m1 .x) (m .m2 .x) (t .unimodular) (byring (of9 m) (search sides depth 40 fits 30000) tt) (up .of0 .ofX) (up .of1 .ofX) (up .of2 .ofX);
-      ofY = not-all-zero (b .m0 .y) (b .m1 .y) (b .m2 .y) (m .m0 .y) (m .m1 .y) (m .m2 .y) (t .unimodular) (byring (of9 m) (search sides depth 40 fits 30000) tt) (up .of0 .ofY) (up .of1 .ofY) (up .of2 .ofY);
-      ofZ = not-all-zero (b .m0 .z) (b .m1 .z) (b .m2 .z) (m .m0 .z) (m .m1 .z) (m .m2 .z) (t .unimodular) (byring (of9 m) (search sides depth 40 fits 30000) tt) (up .of0 .ofZ) (up .of1 .ofZ) (up .of2 .ofZ);
-    }
+    b : ℤ
+    b = dot (crosses m .m1) v
+
+    c : ℤ
+    c = dot (crosses m .m2) v
+
+    none : a +ℤ b +ℤ c ≡ pos 0
+    none = sym (normal-parts m v) ∙ e

@@ -22,8 +22,10 @@ returns : tie.Need-returns Inv-loop μ-loop
 returns c =
     let v = c .before .loop .inv in
     let a = c .before .before .args in
-    let e : c .before .loop .high ≡ c .before .loop .low + 1 = omega arith in
-    largest-is (a .s) (a .t) 32768 (c .before .loop .low) (omega arith) (v .2) (subst (λ (h : ℕ). a .t < h * h * a .s) e (v .3))
+    let m = c .before .loop .high - 1 in
+    let e : c .before .loop .high ≡ m + 1 = omega arith in
+    let f : c .before .loop .low ≡ m = omega arith in
+    largest-is (a .s) (a .t) 32768 m (omega arith) (subst (λ (l : ℕ). l * l * a .s ≤ a .t) f (v .2)) (subst (λ (h : ℕ). a .t < h * h * a .s) e (v .3))
 
 pub root-spec : {M : Type 1} → statement M
 root-spec =
@@ -42,4 +44,5 @@ root-spec =
     (λ c. (omega arith, omega arith, c .if1 .taken, omega arith))
     (λ c. omega arith)
     (λ c. (omega arith, omega arith, omega arith, c .if1 .left))
+    (λ c. omega arith)
     returns)

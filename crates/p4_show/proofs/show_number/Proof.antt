@@ -1,9 +1,9 @@
 -- A number of 32 bits has at most ten digits.
-use mathlib.Core.Path.{_≡_, sym}
+use mathlib.Core.Path.{sym}
 use Prim.Native.Nat.{_≤_}
 use native.Mathlib.Omega.{arith}
 use borrow.Author.Needs.{needs}
-use lib.ListN.{length, take}
+use lib.ListN.{length}
 use lib.Seq.{length-take-le}
 use Rattle.text.specs.Puts.{put-length}
 use Rattle.text.specs.Decimals.{decimal-length}

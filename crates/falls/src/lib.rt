@@ -1,0 +1,58 @@
+// Whether a vector falls.
+ghost use Prim.Native.Nat.{_≤_};
+ghost use Rattle.space.specs.Bounds.{Bounded};
+ghost use Rattle.falls.specs.Scene.{Ready};
+ghost use Rattle.falls.specs.Falls.{FallenIn};
+use rules::Look;
+use rules::Solid;
+use rules::Vector;
+
+// What every question of one pick is about; the solid's bytes are lent beside it.
+pub struct Scene {
+    pub solid: Solid,
+    pub apex: Vector,
+    pub signs: Vector,
+    pub reach: u32,
+}
+
+// Each with the looks so far.
+pub enum Falls {
+    Fell(u32),
+    Kept(u32),
+    Stopped(Vector, u32),
+}
+
+// Whether u, laid in, falls: powers upward from 1 to the first that is at least the reach, each twice as far as the one before.
+pub fn ask_falls(scene: Scene, bytes: &[u8], u: Vector, looks: u32) -> Falls
+    requires { ⌜ Ready scene (now bytes) × Bounded 2046 u × (looks ≤ 2000000) ⌝ }
+    ensures { λ r. ⌜ FallenIn scene (now (bytes .entry)) u looks r ⌝ }
+{
+    let solid = scene.solid;
+    let q = scene.apex;
+    let reach = scene.reach;
+    let mut way = u;
+    let mut power: u32 = 1;
+    let mut n = looks;
+    let f = loop {
+        let at = space::add(q, way);
+        let seen = solid::look_at(solid, bytes, at);
+        match seen {
+            Look::Outside => {
+                break Falls::Stopped(at, n);
+            }
+            Look::Filled => {
+                let last = n + 1;
+                break Falls::Fell(last);
+            }
+            Look::Empty => {
+                n = n + 1;
+                if reach <= power {
+                    break Falls::Kept(n);
+                }
+                power = power + power;
+                way = space::add(way, way);
+            }
+        }
+    };
+    f
+}

@@ -1,0 +1,61 @@
+-- The panel's C interface: each answer of the core as plain numbers. These are definitions: nothing here is proved.
+use lib.IntN.{pos, natAbs}
+use lib.Ieee.{Float, fin}
+use mathlib.Core.Bool.{false}
+use Rattle.rules.specs.declared.Pick.{Pick}
+use Rattle.rules.specs.declared.Pick.the-variants.{Accepted, Refused}
+use Rattle.rules.specs.declared.Display.{Display}
+use Rattle.rules.specs.declared.Display.the-variants.{Lit, Unlit}
+use Rattle.rules.specs.declared.Reading.{Reading}
+use Rattle.rules.specs.declared.Reading.the-variants.{Read, Unread}
+use Rattle.rules.specs.declared.Writing.{Writing}
+use Rattle.rules.specs.declared.Writing.the-variants.{Written, Unwritten}
+use Rattle.rules.specs.Vectors.{origin}
+use Rattle.panel.specs.declared.FlatPick.{FlatPick}
+use Rattle.panel.specs.declared.FlatReading.{FlatReading}
+use Rattle.panel.specs.declared.FlatWriting.{FlatWriting}
+use Rattle.panel.specs.declared.FlatDisplay.{FlatDisplay}
+
+-- number 0: accepted, place 0 0 0. Refused: normal, m0, m1, m2, apex all zero
+abbrev pub flatPick : Pick → FlatPick
+flatPick (Accepted a) = record {
+  number = 0;
+  place = origin;
+  steps = a .steps;
+  looks = a .looks;
+  normal = a .normal;
+  m0 = a .triangle .m0;
+  m1 = a .triangle .m1;
+  m2 = a .triangle .m2;
+  apex = a .apex;
+}
+flatPick (Refused r) = record {
+  number = r .number;
+  place = r .place;
+  steps = r .steps;
+  looks = r .looks;
+  normal = origin;
+  m0 = origin;
+  m1 = origin;
+  m2 = origin;
+  apex = origin;
+}
+
+-- +0
+abbrev pub plusZero : Float
+plusZero = fin false 0 (pos 0)
+
+-- number 0: lit. Refused: number 30, floats +0
+abbrev pub flatDisplay : Display → FlatDisplay
+flatDisplay (Lit l) = record { number = 0; x = l .x; y = l .y; z = l .z }
+flatDisplay (Unlit n) = record { number = n; x = plusZero; y = plusZero; z = plusZero }
+
+-- number 0: sizes set, value 0. Refused: value is the number returned, sizes 0
+abbrev pub flatReading : Reading → FlatReading
+flatReading (Read k) = record { number = 0; value = 0; width = natAbs (k .width); height = natAbs (k .height); depth = natAbs (k .depth) }
+flatReading (Unread number value) = record { number = number; value = value; width = 0; height = 0; depth = 0 }
+
+-- number 0: value is the bytes written; 27: bytes needed; 3: 0
+abbrev pub flatWriting : Writing → FlatWriting
+flatWriting (Written bytes) = record { number = 0; value = bytes }
+flatWriting (Unwritten number value) = record { number = number; value = value }

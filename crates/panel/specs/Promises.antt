@@ -1,0 +1,42 @@
+-- The promises of the panel's five functions: each answer is the core's definition, flattened; a lent buffer holds what the core's promise says.
+-- These are definitions: nothing here is proved.
+use mathlib.Core.Path.{_≡_}
+use mathlib.Core.List.{List, []}
+use Prim.Native.Nat.{ℕ}
+use lib.IntN.{ℤ}
+use lib.ListN.{length}
+use Rattle.rules.specs.declared.Vector.{Vector}
+use Rattle.rules.specs.declared.Wedge.{Wedge}
+use Rattle.rules.specs.declared.Stack.{Stack}
+use Rattle.rules.specs.declared.Solid.the-variants.{Wedge as IsWedge, Stack as IsStack}
+use Rattle.rules.specs.Pick.{pickOf}
+use Rattle.rules.specs.P4.{reading, writing, readAnswer, writeAnswer, stored}
+use Rattle.rules.specs.Display.{display}
+use Rattle.panel.specs.declared.FlatPick.{FlatPick}
+use Rattle.panel.specs.declared.FlatReading.{FlatReading}
+use Rattle.panel.specs.declared.FlatWriting.{FlatWriting}
+use Rattle.panel.specs.declared.FlatDisplay.{FlatDisplay}
+use Rattle.panel.specs.Flat.{flatPick, flatReading, flatWriting, flatDisplay}
+
+abbrev pub wedge : ℤ → ℤ → ℤ → ℤ → Wedge
+wedge a b c h = record { a = a; b = b; c = c; h = h }
+
+abbrev pub stack : ℤ → ℤ → ℤ → Stack
+stack width height depth = record { width = width; height = height; depth = depth }
+
+pub record PickedWedge (w : Wedge) (p : Vector) (frame reach : ℤ) (r : FlatPick) : Type 0 where
+  pub is : r ≡ flatPick (pickOf (IsWedge w) [] p frame reach)
+
+pub record PickedStack (k : Stack) (bytes : List ℕ) (p : Vector) (frame reach : ℤ) (r : FlatPick) : Type 0 where
+  pub is : r ≡ flatPick (pickOf (IsStack k) bytes p frame reach)
+
+pub record ReadP4 (src before after : List ℕ) (r : FlatReading) : Type 0 where
+  pub answers : r ≡ flatReading (readAnswer (reading src (length before)))
+  pub leaves : after ≡ stored (λ found. found .bytes) (reading src (length before)) before
+
+pub record WroteP4 (k : Stack) (bytes before after : List ℕ) (r : FlatWriting) : Type 0 where
+  pub answers : r ≡ flatWriting (writeAnswer (writing k bytes (length before)))
+  pub leaves : after ≡ stored (λ written. written) (writing k bytes (length before)) before
+
+pub record Displayed (nx ny nz : ℤ) (r : FlatDisplay) : Type 0 where
+  pub is : r ≡ flatDisplay (display nx ny nz)

@@ -1,0 +1,28 @@
+-- Each promise of the panel's functions settles the answer and the lent buffer.
+use mathlib.Core.Path.{_≡_, sym, _∙_}
+use mathlib.Core.List.{List}
+use Prim.Native.Nat.{ℕ}
+use lib.IntN.{ℤ}
+use Rattle.rules.specs.declared.Vector.{Vector}
+use Rattle.rules.specs.declared.Wedge.{Wedge}
+use Rattle.rules.specs.declared.Stack.{Stack}
+use Rattle.panel.specs.declared.FlatPick.{FlatPick}
+use Rattle.panel.specs.declared.FlatReading.{FlatReading}
+use Rattle.panel.specs.declared.FlatWriting.{FlatWriting}
+use Rattle.panel.specs.declared.FlatDisplay.{FlatDisplay}
+use Rattle.panel.specs.Promises.{PickedWedge, PickedStack, ReadP4, WroteP4, Displayed}
+
+pub picked-wedge-settled : {w : Wedge} {p : Vector} {frame reach : ℤ} {a b : FlatPick} → PickedWedge w p frame reach a → PickedWedge w p frame reach b → a ≡ b
+picked-wedge-settled h k = h .is ∙ sym (k .is)
+
+pub picked-stack-settled : {s : Stack} {bytes : List ℕ} {p : Vector} {frame reach : ℤ} {a b : FlatPick} → PickedStack s bytes p frame reach a → PickedStack s bytes p frame reach b → a ≡ b
+picked-stack-settled h k = h .is ∙ sym (k .is)
+
+pub read-p4-settled : {src before a b : List ℕ} {q r : FlatReading} → ReadP4 src before a q → ReadP4 src before b r → (q ≡ r) × (a ≡ b)
+read-p4-settled h k = (h .answers ∙ sym (k .answers), h .leaves ∙ sym (k .leaves))
+
+pub wrote-p4-settled : {s : Stack} {bytes before a b : List ℕ} {q r : FlatWriting} → WroteP4 s bytes before a q → WroteP4 s bytes before b r → (q ≡ r) × (a ≡ b)
+wrote-p4-settled h k = (h .answers ∙ sym (k .answers), h .leaves ∙ sym (k .leaves))
+
+pub displayed-settled : {x y z : ℤ} {a b : FlatDisplay} → Displayed x y z a → Displayed x y z b → a ≡ b
+displayed-settled h k = h .is ∙ sym (k .is)

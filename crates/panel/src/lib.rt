@@ -1,0 +1,237 @@
+// The panel's C interface (include/ulgenzhir.h): thin over the core, each answer flattened by a definition of `specs/Flat.antt`.
+ghost use mathlib.Core.Path.{_≡_};
+ghost use Rattle.panel.specs.Promises.{wedge, stack, PickedWedge, PickedStack, ReadP4, WroteP4, Displayed};
+ghost use Rattle.rules.specs.Vectors.{vector};
+ghost use Rattle.panel.specs.Flat.{flatPick, flatDisplay, flatReading, flatWriting};
+use rules::Display;
+use rules::Pick;
+use rules::Reading;
+use rules::Stack;
+use rules::Vector;
+use rules::Wedge;
+use rules::Writing;
+
+// `ulgenzhir_point` is `rules::Vector`.
+
+#[repr(C)]
+pub struct FlatPick {
+    pub number: u32,
+    pub place: Vector,
+    pub steps: u32,
+    pub looks: u32,
+    pub normal: Vector,
+    pub m0: Vector,
+    pub m1: Vector,
+    pub m2: Vector,
+    pub apex: Vector,
+}
+
+#[repr(C)]
+pub struct FlatReading {
+    pub number: u32,
+    pub value: u64,
+    pub width: u32,
+    pub height: u32,
+    pub depth: u32,
+}
+
+#[repr(C)]
+pub struct FlatWriting {
+    pub number: u32,
+    pub value: u64,
+}
+
+#[repr(C)]
+pub struct FlatDisplay {
+    pub number: u32,
+    pub x: f32,
+    pub y: f32,
+    pub z: f32,
+}
+
+// ---- answers as plain numbers
+
+fn flatten_pick(answer: Pick) -> FlatPick
+    ensures { λ r. ⌜ r ≡ flatPick answer ⌝ }
+{
+    let none = Vector { x: 0, y: 0, z: 0 };
+    match answer {
+        Pick::Accepted(a) => {
+            let normal = a.normal;
+            let triangle = a.triangle;
+            let m0 = triangle.m0;
+            let m1 = triangle.m1;
+            let m2 = triangle.m2;
+            let apex = a.apex;
+            FlatPick {
+                number: 0,
+                place: none,
+                steps: a.steps,
+                looks: a.looks,
+                normal: normal,
+                m0: m0,
+                m1: m1,
+                m2: m2,
+                apex: apex,
+            }
+        }
+        Pick::Refused(r) => {
+            let place = r.place;
+            FlatPick {
+                number: r.number,
+                place: place,
+                steps: r.steps,
+                looks: r.looks,
+                normal: none,
+                m0: none,
+                m1: none,
+                m2: none,
+                apex: none,
+            }
+        }
+    }
+}
+
+fn flatten_reading(answer: Reading) -> FlatReading
+    ensures { λ r. ⌜ r ≡ flatReading answer ⌝ }
+{
+    match answer {
+        Reading::Read(k) => FlatReading {
+            number: 0,
+            value: 0,
+            width: size::size_of(k.width),
+            height: size::size_of(k.height),
+            depth: size::size_of(k.depth),
+        },
+        Reading::Unread(number, n) => FlatReading {
+            number: number,
+            value: n as u64,
+            width: 0,
+            height: 0,
+            depth: 0,
+        },
+    }
+}
+
+fn flatten_writing(answer: Writing) -> FlatWriting
+    ensures { λ r. ⌜ r ≡ flatWriting answer ⌝ }
+{
+    match answer {
+        Writing::Written(n) => FlatWriting {
+            number: 0,
+            value: n as u64,
+        },
+        Writing::Unwritten(number, n) => FlatWriting {
+            number: number,
+            value: n as u64,
+        },
+    }
+}
+
+fn flatten_display(answer: Display) -> FlatDisplay
+    ensures { λ r. ⌜ r ≡ flatDisplay answer ⌝ }
+{
+    match answer {
+        Display::Lit(l) => FlatDisplay {
+            number: 0,
+            x: l.x,
+            y: l.y,
+            z: l.z,
+        },
+        Display::Unlit(n) => FlatDisplay {
+            number: n,
+            x: 0.0,
+            y: 0.0,
+            z: 0.0,
+        },
+    }
+}
+
+// ---- the interface
+
+#[no_mangle]
+pub extern "C" fn ulgenzhir_pick_wedge(
+    a: i32,
+    b: i32,
+    c: i32,
+    h: i32,
+    px: i32,
+    py: i32,
+    pz: i32,
+    frame: i32,
+    reach: i32,
+) -> FlatPick
+    ensures { λ r. ⌜ PickedWedge (wedge a b c h) (vector px py pz) frame reach r ⌝ }
+{
+    let w = Wedge {
+        a: a,
+        b: b,
+        c: c,
+        h: h,
+    };
+    let p = Vector {
+        x: px,
+        y: py,
+        z: pz,
+    };
+    flatten_pick(pick::pick_wedge(w, p, frame, reach))
+}
+
+#[no_mangle]
+pub extern "C" fn ulgenzhir_pick_stack(
+    width: i32,
+    height: i32,
+    depth: i32,
+    bytes: &[u8],
+    px: i32,
+    py: i32,
+    pz: i32,
+    frame: i32,
+    reach: i32,
+) -> FlatPick
+    ensures { λ r. ⌜ PickedStack (stack width height depth) (now (bytes .entry)) (vector px py pz) frame reach r ⌝ }
+{
+    let k = Stack {
+        width: width,
+        height: height,
+        depth: depth,
+    };
+    let p = Vector {
+        x: px,
+        y: py,
+        z: pz,
+    };
+    flatten_pick(pick::pick_stack(k, bytes, p, frame, reach))
+}
+
+#[no_mangle]
+pub extern "C" fn ulgenzhir_read_p4(src: &[u8], rows: &mut [u8]) -> FlatReading
+    ensures { λ r. ⌜ ReadP4 (now (src .entry)) (now (rows .entry)) (now (rows .exit)) r ⌝ }
+{
+    flatten_reading(p4_read::read(src, rows))
+}
+
+#[no_mangle]
+pub extern "C" fn ulgenzhir_write_p4(
+    width: i32,
+    height: i32,
+    depth: i32,
+    bytes: &[u8],
+    out: &mut [u8],
+) -> FlatWriting
+    ensures { λ r. ⌜ WroteP4 (stack width height depth) (now (bytes .entry)) (now (out .entry)) (now (out .exit)) r ⌝ }
+{
+    let k = Stack {
+        width: width,
+        height: height,
+        depth: depth,
+    };
+    flatten_writing(p4_write::write(k, bytes, out))
+}
+
+#[no_mangle]
+pub extern "C" fn ulgenzhir_display(nx: i32, ny: i32, nz: i32) -> FlatDisplay
+    ensures { λ r. ⌜ Displayed nx ny nz r ⌝ }
+{
+    flatten_display(display::display_normal(nx, ny, nz))
+}

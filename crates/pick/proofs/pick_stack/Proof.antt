@@ -1,0 +1,12 @@
+-- `pick::pick_stack` meets its promise: the pick of the solid that it is.
+use borrow.Author.Needs.{needs}
+use Rattle.pick.proofs.Answers.{picked-read}
+use Rattle.pick.proofs.pick_stack.Statement.{statement}
+use Rattle.pick.proofs.pick_stack.Tie as tie
+
+pub pick-stack-spec : {M : Type 1} → statement M
+pick-stack-spec =
+    tie.close
+    (tie.spec
+    (λ c κs. search needs)
+    (λ c. let s = c .before .before in record { is = picked-read (s .fits .frame) (s .fits .reach) (c .pick-solid .ensures) .is }))

@@ -1,0 +1,42 @@
+-- `pick::place` meets its contract: by whether p and then q are in the box. p is, so q = p + s fits.
+use mathlib.Core.Path.{sym, _∙_}
+use lib.Dec.{lit≤}
+use borrow.Author.Needs.{needs}
+use Rattle.laws.specs.Frames.{signs-are}
+use Rattle.space.specs.Bounds.{bounded-is, bounded-wider}
+use Rattle.solid.specs.Facts.{inside-cube, cube-bounded}
+use Rattle.falls.proofs.Scenes.{signs-bounded}
+use Rattle.pick.proofs.Answers.{answering}
+use Rattle.pick.proofs.place.Statement.{statement}
+use Rattle.pick.proofs.place.Tie as tie
+
+add-requires : tie.Need-add-requires
+add-requires c κs =
+    let s = c .before .before .before .before in
+    (bounded-wider (cube-bounded (inside-cube (s .pre .0) record { is = sym (c .before .before .is-inside .ensures) ∙ c .before .if1 .taken })) (lit≤ tt), bounded-is (c .signs-of .ensures) (bounded-wider (signs-bounded (signs-are (s .args .frame))) (lit≤ tt)))
+
+begin-requires : tie.Need-begin-requires
+begin-requires c κs =
+    let s = c .before .before .before .before .before .before .before in
+    record {
+      permitted = s .pre .0;
+      placed = record { is = sym (c .before .is-inside2 .ensures) ∙ c .if2 .taken };
+      signed = rw (c .before .before .before .signs-of .ensures) (signs-are (s .args .frame));
+      reach-low = s .pre .1;
+      reach-high = s .pre .2;
+    }
+
+pub place-spec : {M : Type 1} → statement M
+place-spec =
+    tie.close
+    (tie.spec
+    (λ c κs. search needs)
+    (λ c κs. search needs)
+    add-requires
+    (λ c κs. search needs)
+    begin-requires
+    (λ c κs. search needs)
+    (λ c κs. search needs)
+    (λ c. search answering)
+    (λ c. search answering)
+    (λ c. search answering))

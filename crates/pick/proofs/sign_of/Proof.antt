@@ -1,0 +1,11 @@
+-- `pick::sign_of` meets its contract: by the bit.
+use Rattle.pick.proofs.Frames.{sign-zero, sign-more}
+use Rattle.pick.proofs.sign_of.Statement.{statement}
+use Rattle.pick.proofs.sign_of.Tie as tie
+
+pub sign-of-spec : {M : Type 1} → statement M
+sign-of-spec =
+    tie.close
+    (tie.spec
+    (λ c. sign-zero (c .if1 .taken))
+    (λ c. sign-more (c .before .args .bit) (c .if1 .left)))

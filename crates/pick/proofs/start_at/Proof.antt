@@ -1,0 +1,28 @@
+-- `pick::start_at` meets its contract: by the two looks and the axes.
+use borrow.Author.Needs.{needs}
+use Rattle.pick.proofs.Starts.{starting}
+use Rattle.pick.proofs.start_at.Statement.{statement}
+use Rattle.pick.proofs.start_at.Tie as tie
+
+pub start-at-spec : {M : Type 1} → statement M
+start-at-spec =
+    tie.close
+    (tie.spec
+    (λ c κs. search needs)
+    (λ c. search needs)
+    (λ c κs. search needs)
+    (λ c. search needs)
+    (λ c κs. search needs)
+    (λ c. search needs)
+    (λ c κs. search needs)
+    (λ c. search needs)
+    (λ c κs. search needs)
+    (λ c. search needs)
+    (λ c κs. search needs)
+    (λ c. search needs)
+    (λ c κs. search needs)
+    (λ c. search starting)
+    (λ c. search starting)
+    (λ c. search starting)
+    (λ c. search starting)
+    (λ c. search starting))

@@ -1,0 +1,237 @@
+// The pick: what is refused, in order, and the walk.
+ghost use mathlib.Core.Path.{_≡_};
+ghost use Prim.Native.Nat.{_≤_};
+ghost use Rattle.rules.specs.Walk.{sign, signs, normal};
+ghost use Rattle.rules.specs.Pick.{WedgePromise, StackPromise};
+ghost use Rattle.space.specs.Bounds.{Bounded};
+ghost use Rattle.solid.specs.Asks.{Permitted};
+ghost use Rattle.laws.specs.Frames.{Signs};
+ghost use Rattle.falls.specs.Scene.{Ready};
+ghost use Rattle.round.specs.Round.{Sound};
+ghost use Rattle.pick.specs.Start.{looksOf, AxisAskedIn, AxesAskedIn, StartedIn};
+ghost use Rattle.pick.specs.Pick.{layTriangle, EndedIn, RoundedIn, BegunIn, Placed, Picked};
+use falls::Falls;
+use falls::Scene;
+use rules::Accepted;
+use rules::Look;
+use rules::Pick;
+use rules::Refused;
+use rules::Solid;
+use rules::Stack;
+use rules::Triangle;
+use rules::Vector;
+use rules::Wedge;
+use walk::Walked;
+
+// p is filled and q is not, and every axis asked so far falls, after so many looks; or a refusal.
+pub enum Start {
+    Begun(u32),
+    Refused(Refused),
+}
+
+// ---- frames
+
+fn sign_of(bit: u32) -> i32
+    ensures { λ r. ⌜ r ≡ sign bit ⌝ }
+{
+    if bit == 0 { 1 } else { -1 }
+}
+
+fn signs_of(frame: u32) -> Vector
+    ensures { λ r. ⌜ r ≡ signs frame ⌝ }
+{
+    let x = sign_of(frame % 2);
+    let y = sign_of(frame / 2 % 2);
+    let z = sign_of(frame / 4 % 2);
+    Vector { x: x, y: y, z: z }
+}
+
+// ---- the start
+
+// One axis more.
+fn ask_axis(scene: Scene, bytes: &[u8], e: Vector, sofar: Start) -> Start
+    requires { ⌜ Ready scene (now bytes) × Bounded 1 e × (looksOf sofar ≤ 1500) ⌝ }
+    ensures { λ r. ⌜ AxisAskedIn scene (now (bytes .entry)) e sofar r ⌝ }
+{
+    match sofar {
+        Start::Refused(r) => Start::Refused(r),
+        Start::Begun(n) => {
+            let s = scene.signs;
+            let q = scene.apex;
+            let u = space::lay(s, space::negate(e));
+            let f = falls::ask_falls(scene, bytes, u, n);
+            match f {
+                Falls::Fell(k) => Start::Begun(k),
+                Falls::Kept(k) => Start::Refused(walk::refusal(7, space::add(q, u), 0, k)),
+                Falls::Stopped(p, k) => Start::Refused(walk::refusal(8, p, 0, k)),
+            }
+        }
+    }
+}
+
+fn ask_axes(scene: Scene, bytes: &[u8], looks: u32) -> Start
+    requires { ⌜ Ready scene (now bytes) × (looks ≤ 2) ⌝ }
+    ensures { λ r. ⌜ AxesAskedIn scene (now (bytes .entry)) looks r ⌝ }
+{
+    let begun = Start::Begun(looks);
+    let a = ask_axis(scene, bytes, Vector { x: 1, y: 0, z: 0 }, begun);
+    let b = ask_axis(scene, bytes, Vector { x: 0, y: 1, z: 0 }, a);
+    ask_axis(scene, bytes, Vector { x: 0, y: 0, z: 1 }, b)
+}
+
+// Look at p, then, if p is filled, q; then the axes.
+fn start_at(scene: Scene, bytes: &[u8], p: Vector) -> Start
+    requires { ⌜ Ready scene (now bytes) ⌝ }
+    ensures { λ r. ⌜ StartedIn scene (now (bytes .entry)) p r ⌝ }
+{
+    let solid = scene.solid;
+    let q = scene.apex;
+    let at_start = solid::look_at(solid, bytes, p);
+    match at_start {
+        Look::Outside => Start::Refused(walk::refusal(8, p, 0, 0)),
+        Look::Empty => Start::Refused(walk::refusal(5, p, 0, 1)),
+        Look::Filled => {
+            let at_apex = solid::look_at(solid, bytes, q);
+            match at_apex {
+                Look::Outside => Start::Refused(walk::refusal(8, q, 0, 1)),
+                Look::Filled => Start::Refused(walk::refusal(6, q, 0, 2)),
+                Look::Empty => ask_axes(scene, bytes, 2),
+            }
+        }
+    }
+}
+
+// ---- the end
+
+// The sum of the cross products.
+fn normal_of(m: Triangle) -> Vector
+    requires { ⌜ Sound m ⌝ }
+    ensures { λ r. ⌜ r ≡ normal m ⌝ }
+{
+    let m0 = m.m0;
+    let m1 = m.m1;
+    let m2 = m.m2;
+    let a = space::cross(m0, m1);
+    let b = space::cross(m1, m2);
+    let c = space::cross(m2, m0);
+    space::add(space::add(a, b), c)
+}
+
+fn lay_triangle(s: Vector, m: Triangle) -> Triangle
+    requires { ⌜ Sound m × Bounded 1 s ⌝ }
+    ensures { λ r. ⌜ r ≡ layTriangle s m ⌝ }
+{
+    let m0 = m.m0;
+    let m1 = m.m1;
+    let m2 = m.m2;
+    let a = space::lay(s, m0);
+    let b = space::lay(s, m1);
+    let c = space::lay(s, m2);
+    round::make_triangle(a, b, c)
+}
+
+// No pair falls.
+fn end_walk(scene: Scene, m: Triangle, steps: u32, looks: u32) -> Pick
+    requires { ⌜ Sound m × Signs (scene .signs) ⌝ }
+    ensures { λ r. ⌜ EndedIn scene m steps looks r ⌝ }
+{
+    let s = scene.signs;
+    let q = scene.apex;
+    let reach = scene.reach;
+    let n = normal_of(m);
+    let sum = space::size(n);
+    if sum <= reach {
+        let laid = space::lay(s, n);
+        let corners = lay_triangle(s, m);
+        Pick::Accepted(Accepted {
+            normal: laid,
+            triangle: corners,
+            apex: q,
+            steps: steps,
+            looks: looks,
+        })
+    } else {
+        Pick::Refused(walk::refusal(10, q, steps, looks))
+    }
+}
+
+fn ask_rounds(scene: Scene, bytes: &[u8], looks: u32) -> Pick
+    requires { ⌜ Ready scene (now bytes) × (looks ≤ 2000) ⌝ }
+    ensures { λ r. ⌜ RoundedIn scene (now (bytes .entry)) looks r ⌝ }
+{
+    let w = walk::walk_on(scene, bytes, looks);
+    match w {
+        Walked::Ended(m, steps, k) => end_walk(scene, m, steps, k),
+        Walked::Refused(r) => Pick::Refused(r),
+    }
+}
+
+// ---- the pick
+
+fn begin(scene: Scene, bytes: &[u8], p: Vector) -> Pick
+    requires { ⌜ Ready scene (now bytes) ⌝ }
+    ensures { λ r. ⌜ BegunIn scene (now (bytes .entry)) p r ⌝ }
+{
+    let b = start_at(scene, bytes, p);
+    match b {
+        Start::Begun(n) => ask_rounds(scene, bytes, n),
+        Start::Refused(r) => Pick::Refused(r),
+    }
+}
+
+// p is judged before q is formed.
+fn place(solid: Solid, bytes: &[u8], p: Vector, frame: u32, reach: u32) -> Pick
+    requires { ⌜ Permitted solid (now bytes) × (3 ≤ reach) × (reach ≤ 256) ⌝ }
+    ensures { λ r. ⌜ Placed solid (now (bytes .entry)) p frame reach r ⌝ }
+{
+    if solid::is_inside(solid, p) {
+        let s = signs_of(frame);
+        let q = space::add(p, s);
+        if solid::is_inside(solid, q) {
+            let scene = Scene {
+                solid: solid,
+                apex: q,
+                signs: s,
+                reach: reach,
+            };
+            begin(scene, bytes, p)
+        } else {
+            Pick::Refused(walk::refusal(4, q, 0, 0))
+        }
+    } else {
+        Pick::Refused(walk::refusal(4, p, 0, 0))
+    }
+}
+
+fn pick_solid(solid: Solid, bytes: &[u8], p: Vector, frame: i32, reach: i32) -> Pick
+    ensures { λ r. ⌜ Picked solid (now (bytes .entry)) p frame reach r ⌝ }
+{
+    let origin = Vector { x: 0, y: 0, z: 0 };
+    if solid::is_between(3, reach, 256) {
+        if solid::is_between(0, frame, 7) {
+            if solid::is_permitted(solid, bytes) {
+                place(solid, bytes, p, frame as u32, reach as u32)
+            } else {
+                Pick::Refused(walk::refusal(3, origin, 0, 0))
+            }
+        } else {
+            Pick::Refused(walk::refusal(2, origin, 0, 0))
+        }
+    } else {
+        Pick::Refused(walk::refusal(1, origin, 0, 0))
+    }
+}
+
+// A pick of a wedge, which has no bytes.
+pub fn pick_wedge(w: Wedge, p: Vector, frame: i32, reach: i32) -> Pick
+    ensures { λ r. ⌜ WedgePromise w p frame reach r ⌝ }
+{
+    pick_solid(Solid::Wedge(w), b"", p, frame, reach)
+}
+
+// A pick of a stack with its lent bytes.
+pub fn pick_stack(k: Stack, bytes: &[u8], p: Vector, frame: i32, reach: i32) -> Pick
+    ensures { λ r. ⌜ StackPromise k (now (bytes .entry)) p frame reach r ⌝ }
+{
+    pick_solid(Solid::Stack(k), bytes, p, frame, reach)
+}

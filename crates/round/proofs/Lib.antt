@@ -1,0 +1,3 @@
+-- The round, pair by pair.
+pub mod Pairs
+pub mod Rounds

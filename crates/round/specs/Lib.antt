@@ -1,0 +1,2 @@
+-- What a round keeps and promises.
+pub mod Round

@@ -1,0 +1,149 @@
+-- Demand 3 is not empty: W1, W2, W7, W8, a stack and the wedge that takes all the looks allowed. What is assumed of them is proved, the answers are evaluated.
+use mathlib.Core.Path.{_≡_, refl, sym, ap, subst, _∙_}
+use mathlib.Core.Bool.{Bool, true, false, _&&_, Bool·beq}
+use mathlib.Core.List.{[]}
+use Prim.Native.Nat.{ℕ, zero, suc, _*_, _<_}
+use native.Mathlib.Nat as NatL
+use native.Mathlib.Omega.{arith}
+use lib.Dec.{T, leb, leb→le, nleb→lt}
+use lib.IntN.{ℤ, pos, negsuc, natAbs, _-ℤ_, _*ℤ_}
+use lib.Signed.{_≤ℤ_, leZ, leZ-yes, ltZ, ltZ-yes}
+use Rattle.integers.specs.Order.{parts}
+use Rattle.integers.specs.Sizes.{product-size}
+use Rattle.rules.specs.declared.Vector.{Vector}
+use Rattle.rules.specs.declared.Wedge.{Wedge}
+use Rattle.rules.specs.declared.Solid.the-variants.{Wedge as IsWedge, Stack as IsStack}
+use Rattle.rules.specs.declared.Look.the-variants.{Filled, Empty}
+use Rattle.rules.specs.declared.Pick.{Pick}
+use Rattle.rules.specs.declared.Pick.the-variants.{Accepted, Refused}
+use Rattle.rules.specs.Vectors.{vector, _⊕_, _⊖_, minus, scale, dot, cross, det, sphere, lay, size}
+use Rattle.rules.specs.Solids.{between, permittedWedge, filledWedge, box, inBox, filled, look, rowBytes, sliceBytes, stackBytes, permittedStack, voxel, filledStack}
+use Rattle.rules.specs.Asked.{after, _>>=_}
+use Rattle.rules.specs.Walk.{ensure, sign, signs, seen, asked, powersFrom, powers, normal, determinant, inside, anyInside, firstFree, choice, keep, lookAt, falls, axes, falling, round as roundOf, walk, found, start, rounds}
+use Rattle.rules.specs.Pick.{isInside, pick, answer, pickOf}
+use Rattle.laws.specs.Tests.{first-of, second-of}
+use Rattle.laws.specs.Parts.{vector-eq}
+use Rattle.laws.specs.Ranges.{Between}
+use Rattle.laws.specs.Boxes.{in-cube}
+use Rattle.slope.specs.Stair.{stair, row, rows, slices, stairBytes}
+use Rattle.slope.specs.Demands.{Inputs, pickAt, OnSlope, OnWedge, ofStack, at, line, Accepts, Refuses, NotEmpty}
+use Rattle.slope.specs.Wedges.{multiple-slope}
+
+-- ---- a vector that has 1 or -1 for a component has no common divisor
+factor-of-one : (k y : ℕ) → k * y ≡ 1 → k ≡ 1
+factor-of-one zero y e = absurd (omega arith)
+factor-of-one (suc k) zero e = absurd (omega arith)
+factor-of-one (suc k) (suc y) e = omega (arith, NatL.mul-suc (suc k) y)
+
+no-divisor : (n : Vector) → natAbs (n .x) ≡ 1 → (d : ℤ) (u : Vector) → pos 0 ≤ℤ d → n ≡ scale d u → d ≡ pos 1
+unfolding scale
+no-divisor n one (pos k) u h e = ap pos (factor-of-one k (natAbs (u .x)) (sym (product-size (pos k) (u .x)) ∙ sym (ap (λ (a : Vector). natAbs (a .x)) e) ∙ one))
+no-divisor n one (negsuc k) u h e = absurd (h .le)
+
+-- ---- what is told of an answer
+data Told : Type 0 where
+  N : Vector → ℕ → ℕ → Told
+  R : ℕ → Told
+
+told : Pick → Told
+told (Accepted a) = N (a .normal) (a .steps) (a .looks)
+told (Refused r) = R (r .number)
+
+accepts : {n : Vector} {t : ℤ} {i : Inputs} {steps looks : ℕ} → OnSlope n t i → told (pickAt i) ≡ N n steps looks → Accepts n t i steps looks
+unfolding told
+accepts {n} {t} {i} {steps} {looks} o e = go (pickAt i) refl e
+  where
+    go : (x : Pick) → pickAt i ≡ x → told x ≡ N n steps looks → Accepts n t i steps looks
+    go (Accepted a) is e = record { onSlope = o; answer = a; is = is; isNormal = cc e; stepsAre = cc e; looksAre = cc e }
+    go (Refused r) is e = absurd (let z : _≡_ {A = ℕ} 0 1 = cc e in omega arith)
+
+refuses : {n : Vector} {t : ℤ} {i : Inputs} → OnSlope n t i → told (pickAt i) ≡ R 8 → Refuses n t i
+unfolding told
+refuses {n} {t} {i} o e = go (pickAt i) refl e
+  where
+    go : (x : Pick) → pickAt i ≡ x → told x ≡ R 8 → Refuses n t i
+    go (Accepted a) is e = absurd (let z : _≡_ {A = ℕ} 0 1 = cc e in omega arith)
+    go (Refused r) is e = record { onSlope = o; answer = r; is = is; isEight = cc e }
+
+-- ---- wedges: every assumption is a test
+abbrev wedgeOf : ℤ → ℤ → ℤ → ℤ → Wedge
+wedgeOf a b c h = record { a = a; b = b; c = c; h = h }
+
+on-wedge : (g : ℤ) {n : Vector} {a b c h : ℤ} {p : Vector} {frame reach : ℤ} → T (between (pos 3) reach (pos 256)) → T (between (pos 0) frame (pos 7)) → T (permittedWedge (wedgeOf a b c h))
+    → T (leZ (pos 1) (lay (signs (natAbs frame)) n .x)) → T (leZ (pos 1) (lay (signs (natAbs frame)) n .y)) → T (leZ (pos 1) (lay (signs (natAbs frame)) n .z))
+    → natAbs (n .x) ≡ 1 → T (leZ (pos (size n)) reach) → T (leZ (pos 1) g) → vector a b c ≡ scale g n
+    → look (IsWedge (wedgeOf a b c h)) [] p ≡ Filled → look (IsWedge (wedgeOf a b c h)) [] (p ⊕ signs (natAbs frame)) ≡ Empty
+    → OnWedge g n (wedgeOf a b c h) p frame reach
+on-wedge g {n = n} r f k x y z one fits once multiple filled empty = record {
+  permitted = record { permittedReach = r; permittedFrame = f; permittedSolid = k };
+  direction = record { signed = record { ofX = leZ-yes x; ofY = leZ-yes y; ofZ = leZ-yes z }; noCommonDivisor = λ d u h e. no-divisor n one d u (omega (arith, parts)) e; withinReach = leZ-yes fits };
+  atLeastOnce = leZ-yes once;
+  multiple = multiple;
+  touched = record { startFilled = filled; apexEmpty = empty };
+}
+
+-- with the ceiling of h/g
+on-line : {g : ℤ} {n : Vector} {t a b c h : ℤ} {p : Vector} {frame reach : ℤ} → OnWedge g n (wedgeOf a b c h) p frame reach → T (leZ h (g *ℤ t)) → T (ltZ (g *ℤ (t -ℤ pos 1)) h) → OnSlope n t (line a b c h p frame reach)
+on-line {t = t} o enough least = multiple-slope _ _ _ _ _ _ o (record { t = t; enough = leZ-yes enough; least = ltZ-yes least })
+
+-- ---- the stair: every voxel of its box is looked up
+allBelow : ℕ → (ℕ → Bool) → Bool
+allBelow zero f = true
+allBelow (suc n) f = f n && allBelow n f
+
+each-below : (n : ℕ) (f : ℕ → Bool) → T (allBelow n f) → (k : ℕ) → k < n → T (f k)
+unfolding allBelow
+each-below zero f h k l = absurd (omega arith)
+each-below (suc n) f h k l = go (leb n k) refl (each-below n f (second-of (f n) (allBelow n f) h) k)
+  where
+    go : (b : Bool) → leb n k ≡ b → (k < n → T (f k)) → T (f k)
+    go true e r = let same : n ≡ k = omega (arith, leb→le n k (rw e tt)) in subst (λ (j : ℕ). T (f j)) same (first-of (f n) (allBelow n f) h)
+    go false e r = r (nleb→lt n k (rw e tt))
+
+same-bool : (a b : Bool) → T (Bool·beq a b) → a ≡ b
+same-bool true true h = refl
+same-bool true false h = absurd h
+same-bool false true h = absurd h
+same-bool false false h = refl
+
+agrees : ℕ → ℕ → ℕ → Bool
+agrees x y z = Bool·beq (voxel 9 9 stairBytes x y z) (ltZ (dot (at 1) (vector (pos x) (pos y) (pos z))) (pos 12))
+
+all-agree : T (allBelow 9 (λ x. allBelow 9 (λ y. allBelow 9 (λ z. agrees x y z))))
+unfolding allBelow agrees voxel rowBytes stairBytes slices rows row dot
+all-agree = tt
+
+natural : (x : ℤ) → Between 8 x → (k : ℕ) × (x ≡ pos k) × (k < 9)
+natural (pos k) h = (k, refl, omega (arith, parts, h .high))
+natural (negsuc k) h = absurd (h .low .le)
+
+stair-below : (v : Vector) → T (inBox (box (IsStack stair)) v) → filled (IsStack stair) stairBytes v ≡ ltZ (dot (at 1) v) (pos 12)
+unfolding agrees filledStack
+stair-below v i =
+    let c = in-cube 8 (box (IsStack stair)) v (record { ofX = leZ-yes tt; ofY = leZ-yes tt; ofZ = leZ-yes tt }) i in
+    let x = natural (v .x) (c .ofX) in let y = natural (v .y) (c .ofY) in let z = natural (v .z) (c .ofZ) in
+    subst (λ (u : Vector). filledStack stair stairBytes u ≡ ltZ (dot (at 1) u) (pos 12)) (vector-eq (sym (x .1)) (sym (y .1)) (sym (z .1)))
+    (same-bool _ _ (each-below 9 (λ k. agrees (x .0) (y .0) k) (each-below 9 (λ j. allBelow 9 (λ k. agrees (x .0) j k)) (each-below 9 (λ l. allBelow 9 (λ j. allBelow 9 (λ k. agrees l j k))) all-agree (x .0) (x .2)) (y .0) (y .2)) (z .0) (z .2)))
+
+on-stair : OnSlope (at 1) (pos 12) (ofStack stair stairBytes (at 3) (pos 0) (pos 3))
+unfolding between permittedStack stackBytes sliceBytes rowBytes stairBytes slices rows row lay signs sign size look inBox voxel filledStack _⊕_
+on-stair = record {
+  permitted = record { permittedReach = tt; permittedFrame = tt; permittedSolid = tt };
+  direction = record { signed = record { ofX = leZ-yes tt; ofY = leZ-yes tt; ofZ = leZ-yes tt }; noCommonDivisor = λ d u h e. no-divisor (at 1) refl d u (omega (arith, parts)) e; withinReach = leZ-yes tt };
+  filledBelow = stair-below;
+  touched = record { startFilled = refl; apexEmpty = refl };
+}
+
+pub not-empty : NotEmpty
+unfolding told _⊕_ _⊖_ minus scale dot cross det sphere lay size between permittedWedge filledWedge inBox look rowBytes voxel filledStack permittedStack stackBytes sliceBytes stairBytes slices rows row after _>>=_ ensure sign signs seen asked powersFrom powers normal determinant inside anyInside firstFree choice keep lookAt falls axes falling roundOf walk found start rounds isInside pick answer pickOf
+not-empty = record {
+  W1 = accepts (on-line (on-wedge (pos 1) tt tt tt tt tt tt refl tt tt refl refl refl) tt tt) refl;
+  W2 = accepts (on-line (on-wedge (pos 1) tt tt tt tt tt tt refl tt tt refl refl refl) tt tt) refl;
+  W8 = accepts (on-line (on-wedge (pos 1) tt tt tt tt tt tt refl tt tt refl refl refl) tt tt) refl;
+  twiceW1 = on-wedge (pos 2) tt tt tt tt tt tt refl tt tt refl refl refl;
+  twiceW1Accepts = accepts (on-line (on-wedge (pos 2) tt tt tt tt tt tt refl tt tt refl refl refl) tt tt) refl;
+  onStack = accepts on-stair refl;
+  W7 = refuses (on-line (on-wedge (pos 1) tt tt tt tt tt tt refl tt tt refl refl refl) tt tt) refl;
+  allowed = refl;
+  allLooks = accepts (on-line (on-wedge (pos 1) tt tt tt tt tt tt refl tt tt refl refl refl) tt tt) refl;
+}

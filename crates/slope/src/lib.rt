@@ -1,0 +1,1 @@
+// Demand 3, over document 01's definitions, in specs/. There is no code here.

@@ -1,0 +1,14 @@
+-- The three sides' tests are those of the definition.
+use borrow.Author.Needs.{needs}
+use Rattle.integers.specs.Machine.{value}
+use Rattle.rules.specs.Solids.{inBox}
+use Rattle.solid.proofs.Judged.{judged}
+use Rattle.solid.proofs.is_in_box.Statement.{statement}
+use Rattle.solid.proofs.is_in_box.Tie as tie
+
+returns : tie.Need-returns
+unfolding inBox
+returns c = value (search judged depth 30 fits 5000) tt
+
+pub is-in-box-spec : {M : Type 1} → statement M
+is-in-box-spec = tie.close (tie.spec (λ c κs. search needs) (λ c κs. search needs) (λ c κs. search needs) returns)

@@ -1,0 +1,14 @@
+-- The bounds of the two dot products bound their product.
+use Rattle.integers.specs.Machine.{fits, value}
+use Rattle.space.specs.Bounds.{measured, bounded}
+use Rattle.space.proofs.term.Statement.{statement}
+use Rattle.space.proofs.term.Tie as tie
+
+pub term-spec : {M : Type 1} → statement M
+term-spec =
+    tie.close
+    (tie.spec
+    (λ c κs. (bounded (search measured depth 30 fits 5000) tt, bounded (search measured depth 30 fits 5000) tt))
+    (λ c κs. (bounded (search measured depth 30 fits 5000) tt, bounded (search measured depth 30 fits 5000) tt))
+    (λ c. fits (search measured depth 30 fits 5000) tt)
+    (λ c. value (search measured depth 30 fits 5000) tt))

@@ -1,0 +1,2 @@
+-- The walk, round by round.
+pub mod Walks

@@ -1,0 +1,72 @@
+// The walk: rounds and steps until no pair falls.
+ghost use mathlib.Core.Path.{_≡_};
+ghost use Prim.Native.Nat.{_≤_};
+ghost use Rattle.rules.specs.Walk.{units};
+ghost use Rattle.falls.specs.Scene.{Ready};
+ghost use Rattle.walk.specs.Walk.{refusalOf, WalksIn};
+use falls::Scene;
+use round::Round;
+use rules::Choice;
+use rules::Refused;
+use rules::Triangle;
+use rules::Vector;
+
+// No pair falls: the triangle, the steps and the looks; or a refusal.
+pub enum Walked {
+    Ended(Triangle, u32, u32),
+    Refused(Refused),
+}
+
+fn unit_vectors() -> Triangle
+    ensures { λ r. ⌜ r ≡ units ⌝ }
+{
+    let a = Vector { x: 1, y: 0, z: 0 };
+    let b = Vector { x: 0, y: 1, z: 0 };
+    let c = Vector { x: 0, y: 0, z: 1 };
+    round::make_triangle(a, b, c)
+}
+
+pub fn refusal(number: u32, place: Vector, steps: u32, looks: u32) -> Refused
+    ensures { λ r. ⌜ r ≡ refusalOf number place steps looks ⌝ }
+{
+    Refused {
+        number: number,
+        place: place,
+        steps: steps,
+        looks: looks,
+    }
+}
+
+// Begin with the unit vectors and zero steps; at most R - 3 steps.
+pub fn walk_on(scene: Scene, bytes: &[u8], looks: u32) -> Walked
+    requires { ⌜ Ready scene (now bytes) × (looks ≤ 2000) ⌝ }
+    ensures { λ r. ⌜ WalksIn scene (now (bytes .entry)) looks r ⌝ }
+{
+    let q = scene.apex;
+    let limit = scene.reach - 3;
+    let mut m = unit_vectors();
+    let mut steps: u32 = 0;
+    let mut n = looks;
+    let end = loop {
+        let r = round::ask_round(scene, bytes, m, n);
+        match r {
+            Round::Stopped(p, k) => {
+                break Walked::Refused(refusal(8, p, steps, k));
+            }
+            Round::Asked(c, k) => match c {
+                Choice::Nothing => {
+                    break Walked::Ended(m, steps, k);
+                }
+                Choice::Chosen(x) => {
+                    if steps == limit {
+                        break Walked::Refused(refusal(9, q, steps, k));
+                    }
+                    m = round::step_by(m, x);
+                    steps = steps + 1;
+                    n = k;
+                }
+            },
+        }
+    };
+    end
+}

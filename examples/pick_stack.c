@@ -1,0 +1,51 @@
+/*
+ * Reads a stack of P4 images, picks at a voxel, and prints the face's normal
+ * and its unit vector:
+ *
+ *   pick_stack FILE X Y Z FRAME REACH
+ */
+#include <stdio.h>
+#include <stdlib.h>
+
+#include "../include/ulgenzhir.h"
+
+/* Bytes of a full stack of 256 a side, and of its file with short headers. */
+enum { MOST_ROWS = 256 * 256 * 32, MOST_FILE = 2 * MOST_ROWS };
+
+static uint8_t file[MOST_FILE], rows[MOST_ROWS];
+
+static int print_pick(ulgenzhir_pick pick)
+{
+    if (pick.number != 0) {
+        printf("refused %u at %d %d %d\n", pick.number, pick.place.x, pick.place.y, pick.place.z);
+        return 1;
+    }
+    ulgenzhir_point n = pick.normal;
+    ulgenzhir_lit lit = ulgenzhir_display(n.x, n.y, n.z);
+    printf("normal %d %d %d after %u steps and %u looks\n", n.x, n.y, n.z, pick.steps, pick.looks);
+    printf("display %.15f %.15f %.15f\n", lit.x, lit.y, lit.z);
+    return 0;
+}
+
+int main(int argc, char **argv)
+{
+    FILE *in = argc == 7 ? fopen(argv[1], "rb") : NULL;
+    if (in == NULL) {
+        fprintf(stderr, "usage: pick_stack FILE X Y Z FRAME REACH\n");
+        return 2;
+    }
+    size_t len = fread(file, 1, sizeof file, in);
+    fclose(in);
+    ulgenzhir_read read = ulgenzhir_read_p4(file, len, rows, sizeof rows);
+    if (read.number != 0) {
+        printf("not a stack: %u, %llu\n", read.number, (unsigned long long)read.value);
+        return 1;
+    }
+    printf("stack %u %u %u\n", read.width, read.height, read.depth);
+    int asked[5];
+    for (int i = 0; i < 5; i++)
+        asked[i] = atoi(argv[i + 2]);
+    return print_pick(ulgenzhir_pick_stack((int32_t)read.width, (int32_t)read.height,
+                                           (int32_t)read.depth, rows, sizeof rows, asked[0],
+                                           asked[1], asked[2], asked[3], asked[4]));
+}

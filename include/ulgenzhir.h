@@ -1,0 +1,142 @@
+/*
+ * Ulgenzhir: the proved core of an inspection panel, for C and C++ hosts.
+ * Link target/staticlib/libpanel.a (x86-64 Linux); it needs the C library alone.
+ *
+ * What a call does. It answers for every value of its numbers and for every
+ * content of its buffers. It keeps nothing between calls, allocates nothing,
+ * has no error but the numbers below, and always returns; calls on different
+ * buffers may run at the same time.
+ *
+ * What a caller owes, and nothing more:
+ *   - a pointer and its length name bytes that may be read (const) or written
+ *     for the whole call;
+ *   - with a length of 0 the pointer is not NULL: pass any other pointer, as
+ *     that of a variable; nothing is read or written through it;
+ *   - a buffer that is written (rows, out) overlaps no other buffer of the
+ *     same call, and no other thread touches it, or writes one that is only
+ *     read, during the call.
+ *
+ * Numbers. 0 is success. Of a pick, in the order they are judged:
+ *    1  reach outside 3 to 256                            place 0 0 0
+ *    2  frame outside 0 to 7                              place 0 0 0
+ *    3  wedge number or stack size out of range,
+ *       or too few bytes for the stack                    place 0 0 0
+ *    4  the start, or else the apex, is outside the box   that point
+ *    5  the start is not filled                           the start
+ *    6  the apex is filled                                the apex
+ *    7  minus the unit vector of an axis does not fall    apex less that vector
+ *    8  a voxel to be looked at is outside the box        that point
+ *    9  reach - 3 steps are done and a pair still falls   the apex
+ *   10  the sizes of the normal add to more than reach    the apex
+ * Of reading a stack, front to back:
+ *   21  no "P4" where an image begins                     offset of the image
+ *   22  the header does not fit the rule                  offset of the first wrong byte,
+ *                                                         or the input's length
+ *   23  width or height not 1 to 256                      offset of its first digit
+ *   24  size differs from the first image's               offset of the image
+ *   25  rows cut short                                    the input's length
+ *   26  a byte follows image 256                          its offset
+ *   27  the lent buffer is too short                      bytes needed
+ * Of writing a stack: 3 (value 0), then 27. Of the display normal: 30, all
+ * three are zero or one is outside -1023 to 1023.
+ */
+#ifndef ULGENZHIR_H
+#define ULGENZHIR_H
+
+#include <stddef.h>
+#include <stdint.h>
+
+#ifdef __cplusplus
+extern "C" {
+#endif
+
+typedef struct {
+    int32_t x, y, z;
+} ulgenzhir_point;
+
+/*
+ * number 0: accepted, place 0 0 0; the normal, the triangle vectors and the
+ * apex are laid into the box.
+ * Refused: normal, m0, m1, m2, apex all zero.
+ * steps and looks are those made so far in either case.
+ */
+typedef struct {
+    uint32_t number;
+    ulgenzhir_point place;
+    uint32_t steps, looks;
+    ulgenzhir_point normal, m0, m1, m2, apex;
+} ulgenzhir_pick;
+
+/*
+ * The probing walk on the wedge that is filled where ax + by + cz < h, in a
+ * box of 0 to 1023 on each axis. a, b, c are -1000 to 1000, h is -4,000,000 to
+ * 4,000,000. The walk starts at px py pz; bit 0, 1, 2 of the frame turns
+ * axis 0, 1, 2.
+ */
+ulgenzhir_pick ulgenzhir_pick_wedge(int32_t a, int32_t b, int32_t c, int32_t h,
+                                    int32_t px, int32_t py, int32_t pz,
+                                    int32_t frame, int32_t reach);
+
+/*
+ * The same on a stack, each size 1 to 256. A row is width/8 bytes rounded up,
+ * highest bit leftmost, 1 filled; rows follow y, slices follow z. Bits that pad
+ * a row and bytes beyond the stack are not looked at.
+ */
+ulgenzhir_pick ulgenzhir_pick_stack(int32_t width, int32_t height, int32_t depth,
+                                    const uint8_t *bytes, size_t len,
+                                    int32_t px, int32_t py, int32_t pz,
+                                    int32_t frame, int32_t reach);
+
+/*
+ * number 0: sizes set, value 0. Refused: value is the number returned, sizes 0.
+ */
+typedef struct {
+    uint32_t number;
+    uint64_t value;
+    uint32_t width, height, depth;
+} ulgenzhir_read;
+
+/*
+ * Reads 1 to 256 P4 images of equal size. On success the rows are at the front
+ * of the lent buffer with padding bits zero and the bytes behind them stay;
+ * a refusal writes nothing.
+ */
+ulgenzhir_read ulgenzhir_read_p4(const uint8_t *in, size_t in_len,
+                                 uint8_t *rows, size_t rows_len);
+
+/*
+ * number 0: value is the bytes written; 27: bytes needed; 3: 0.
+ */
+typedef struct {
+    uint32_t number;
+    uint64_t value;
+} ulgenzhir_written;
+
+/*
+ * Writes a stack in its plain form at the front of the lent buffer, padding
+ * bits zero; the bytes behind stay, and a refusal writes nothing.
+ */
+ulgenzhir_written ulgenzhir_write_p4(int32_t width, int32_t height, int32_t depth,
+                                     const uint8_t *bytes, size_t len,
+                                     uint8_t *out, size_t out_len);
+
+/*
+ * number 0: lit. Refused: number 30, floats +0.
+ */
+typedef struct {
+    uint32_t number;
+    float x, y, z;
+} ulgenzhir_lit;
+
+/*
+ * The unit vector of three whole numbers. Each float is exactly m/32768 with
+ * its number's sign; its size is at most the exact one, and less than 1/32768
+ * below it.
+ */
+ulgenzhir_lit ulgenzhir_display(int32_t nx, int32_t ny, int32_t nz);
+
+#ifdef __cplusplus
+}
+#endif
+
+#endif

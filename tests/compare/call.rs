@@ -1,0 +1,290 @@
+//! One call of an entry point: how it is sent, what the second program answers, and what came back.
+
+use crate::answers::{Lit, Pick, Point, Read, Written};
+use crate::chance::Chance;
+use crate::flat;
+use second::p4;
+use second::pick::pick;
+use second::session::pick_of;
+use second::solid::{Sizes, Stack};
+
+/// A lent buffer in the middle of a larger one, so that a write beside it shows.
+#[derive(Clone)]
+pub struct Lent {
+    whole: Vec<u8>,
+    from: usize,
+    len: usize,
+}
+
+impl Lent {
+    pub fn new(chance: &mut Chance, len: usize) -> Lent {
+        let from = chance.len_to(9);
+        let pattern = chance.byte();
+        let whole = (0..from + len + 16).map(|i| pattern.wrapping_add(37 * i as u8)).collect();
+        Lent { whole, from, len }
+    }
+
+    fn part(&mut self) -> &mut [u8] {
+        &mut self.whole[self.from..self.from + self.len]
+    }
+}
+
+/// What a pick on a stack is asked.
+#[derive(Clone)]
+pub struct OnStack {
+    pub sizes: [i32; 3],
+    pub bytes: Vec<u8>,
+    pub start: [i32; 3],
+    pub frame: i32,
+    pub reach: i32,
+}
+
+#[derive(Clone)]
+pub enum Call {
+    /// a b c h, p, frame, R.
+    Wedge([i32; 9]),
+    Stack(OnStack),
+    /// The input is the front of a longer text, so that a reader that runs on meets something.
+    Read {
+        text: Vec<u8>,
+        len: usize,
+        lent: Lent,
+    },
+    Write {
+        sizes: [i32; 3],
+        bytes: Vec<u8>,
+        lent: Lent,
+    },
+    Display([i32; 3]),
+}
+
+/// An answer with the whole of the lent buffer and what surrounds it.
+#[derive(PartialEq)]
+pub enum Answer {
+    Pick(Pick),
+    Read(Read, Vec<u8>),
+    Written(Written, Vec<u8>),
+    /// The floats' bits, so that -0 is not 0.
+    Lit(u32, [u32; 3]),
+}
+
+impl Answer {
+    pub fn number(&self) -> u32 {
+        match self {
+            Answer::Pick(pick) => pick.number,
+            Answer::Read(read, _) => read.number,
+            Answer::Written(written, _) => written.number,
+            Answer::Lit(number, _) => *number,
+        }
+    }
+
+    /// In words; the buffer only where it differs from the other answer's.
+    pub fn told(&self, other: &Answer) -> String {
+        match (self, other) {
+            (Answer::Pick(pick), _) => format!("{pick:?}"),
+            (Answer::Read(read, ours), Answer::Read(_, theirs)) => {
+                format!("{read:?} {}", difference(ours, theirs))
+            }
+            (Answer::Written(written, ours), Answer::Written(_, theirs)) => {
+                format!("{written:?} {}", difference(ours, theirs))
+            }
+            (Answer::Lit(number, bits), _) => {
+                format!("{number} {:?}", bits.map(f32::from_bits))
+            }
+            _ => "an answer of another kind".into(),
+        }
+    }
+}
+
+fn difference(ours: &[u8], theirs: &[u8]) -> String {
+    match ours.iter().zip(theirs).position(|(a, b)| a != b) {
+        Some(at) => format!("byte {at} of the buffer and its margins is {}", ours[at]),
+        None => "buffers equal".into(),
+    }
+}
+
+fn sizes_of([width, height, depth]: [i32; 3]) -> Sizes {
+    Sizes { width: width.into(), height: height.into(), depth: depth.into() }
+}
+
+impl Call {
+    /// What the second program answers.
+    pub fn second(&self) -> Answer {
+        match self {
+            Call::Wedge(line) => Answer::Pick(flat::pick(pick_of(line.map(i64::from)))),
+            Call::Stack(on) => {
+                let stack = Stack { sizes: sizes_of(on.sizes), bytes: &on.bytes };
+                let start = on.start.map(i64::from);
+                Answer::Pick(flat::pick(pick(&stack, start, on.frame.into(), on.reach.into())))
+            }
+            Call::Read { text, len, lent } => {
+                let mut lent = lent.clone();
+                let answer = flat::read(p4::read(&text[..*len], lent.part()));
+                Answer::Read(answer, lent.whole)
+            }
+            Call::Write { sizes, bytes, lent } => {
+                let mut lent = lent.clone();
+                let answer = flat::written(p4::write(sizes_of(*sizes), bytes, lent.part()));
+                Answer::Written(answer, lent.whole)
+            }
+            Call::Display(normal) => {
+                let Lit { number, x, y, z } = flat::lit(normal.map(i64::from));
+                Answer::Lit(number, [x, y, z].map(f32::to_bits))
+            }
+        }
+    }
+
+    /// About how many bytes it takes to hold.
+    pub fn size(&self) -> usize {
+        100 + match self {
+            Call::Wedge(_) | Call::Display(_) => 0,
+            Call::Stack(on) => on.bytes.len(),
+            Call::Read { text, lent, .. } => text.len() + lent.whole.len(),
+            Call::Write { bytes, lent, .. } => bytes.len() + lent.whole.len(),
+        }
+    }
+
+    /// As the bridge takes it.
+    pub fn send(&self, batch: &mut Batch) {
+        match self {
+            Call::Wedge(line) => batch.ints(b'w', line),
+            Call::Stack(on) => {
+                let ([w, h, d], [x, y, z]) = (on.sizes, on.start);
+                batch.ints(b's', &[w, h, d, x, y, z, on.frame, on.reach]);
+                batch.bytes(&on.bytes);
+            }
+            Call::Read { text, len, lent } => {
+                batch.ints(b'r', &[*len, lent.from, lent.len].map(|number| number as i32));
+                batch.bytes(text);
+                batch.bytes(&lent.whole);
+            }
+            Call::Write { sizes: [w, h, d], bytes, lent } => {
+                batch.ints(b'o', &[*w, *h, *d, lent.from as i32, lent.len as i32]);
+                batch.bytes(bytes);
+                batch.bytes(&lent.whole);
+            }
+            Call::Display(normal) => batch.ints(b'd', normal),
+        }
+    }
+
+    /// What the library answered.
+    pub fn receive(&self, reply: &mut Reply) -> Answer {
+        match self {
+            Call::Wedge(_) | Call::Stack(_) => Answer::Pick(reply.pick()),
+            Call::Read { lent, .. } => {
+                let (number, value) = (reply.take(), reply.take_long());
+                let (width, height, depth) = (reply.take(), reply.take(), reply.take());
+                let read = Read { number, value, width, height, depth };
+                Answer::Read(read, reply.bytes(lent.whole.len()))
+            }
+            Call::Write { lent, .. } => {
+                let written = Written { number: reply.take(), value: reply.take_long() };
+                Answer::Written(written, reply.bytes(lent.whole.len()))
+            }
+            Call::Display(_) => {
+                Answer::Lit(reply.take(), [reply.take(), reply.take(), reply.take()])
+            }
+        }
+    }
+
+    /// The call in words, with its numbers and the front of its bytes.
+    pub fn told(&self) -> String {
+        let front = |bytes: &[u8]| bytes[..bytes.len().min(300)].escape_ascii().to_string();
+        match self {
+            Call::Wedge(line) => format!("wedge {}", line.map(|n| n.to_string()).join(" ")),
+            Call::Stack(OnStack { sizes, bytes, start, frame, reach }) => {
+                let len = bytes.len();
+                format!("stack {sizes:?} of {len} bytes, start {start:?}, {frame}, {reach}")
+            }
+            Call::Read { text, len, lent } => {
+                format!("read of {len} bytes into {}: {}", lent.len, front(&text[..*len]))
+            }
+            Call::Write { sizes, bytes, lent } => {
+                let len = bytes.len();
+                format!("write {sizes:?} of {len} bytes into {}: {}", lent.len, front(bytes))
+            }
+            Call::Display(normal) => format!("display {normal:?}"),
+        }
+    }
+}
+
+/// Calls on their way to the bridge.
+#[derive(Default)]
+pub struct Batch {
+    pub text: Vec<u8>,
+}
+
+impl Batch {
+    fn put(&mut self, number: u32) {
+        self.text.extend(number.to_le_bytes());
+    }
+
+    fn ints(&mut self, kind: u8, numbers: &[i32]) {
+        self.put(kind.into());
+        numbers.iter().for_each(|&number| self.put(number as u32));
+    }
+
+    /// Runs that are not all zero, eight bytes at a time.
+    fn bytes(&mut self, bytes: &[u8]) {
+        const PIECE: usize = 8;
+        self.put(bytes.len() as u32);
+        let runs_at = self.text.len();
+        self.put(0);
+        let mut runs = 0u32;
+        let mut at = 0;
+        while at < bytes.len() {
+            let filled = |piece: &[u8]| piece.iter().any(|&byte| byte != 0);
+            let pieces = bytes[at..].chunks(PIECE).take_while(|piece| filled(piece)).count();
+            let end = (at + pieces * PIECE).min(bytes.len());
+            if pieces > 0 {
+                self.put(at as u32);
+                self.put((end - at) as u32);
+                self.text.extend(&bytes[at..end]);
+                runs += 1;
+            }
+            at = end + PIECE * usize::from(pieces == 0);
+        }
+        self.text[runs_at..runs_at + 4].copy_from_slice(&runs.to_le_bytes());
+    }
+}
+
+/// Answers that came back.
+pub struct Reply {
+    pub text: Vec<u8>,
+    pub at: usize,
+}
+
+impl Reply {
+    fn bytes(&mut self, len: usize) -> Vec<u8> {
+        self.at += len;
+        self.text[self.at - len..self.at].to_vec()
+    }
+
+    fn take(&mut self) -> u32 {
+        u32::from_le_bytes(self.bytes(4).try_into().expect("four bytes"))
+    }
+
+    fn take_long(&mut self) -> u64 {
+        u64::from_le_bytes(self.bytes(8).try_into().expect("eight bytes"))
+    }
+
+    fn point(&mut self) -> Point {
+        let [x, y, z] = [self.take(), self.take(), self.take()].map(|part| part as i32);
+        Point { x, y, z }
+    }
+
+    /// In the order of the header's struct.
+    fn pick(&mut self) -> Pick {
+        Pick {
+            number: self.take(),
+            place: self.point(),
+            steps: self.take(),
+            looks: self.take(),
+            normal: self.point(),
+            m0: self.point(),
+            m1: self.point(),
+            m2: self.point(),
+            apex: self.point(),
+        }
+    }
+}

@@ -1,0 +1,56 @@
+//! The second program's answers in the header's structs.
+
+use crate::answers;
+use second::pick::{Pick, Record, Refusal};
+use second::point::Point;
+use second::solid::Sizes;
+use second::{display, p4};
+
+fn point(place: Point) -> answers::Point {
+    let [x, y, z] = place.map(|part| i32::try_from(part).expect("places are within 32 bits"));
+    answers::Point { x, y, z }
+}
+
+pub fn pick(answer: Pick) -> answers::Pick {
+    match answer {
+        Ok(Record { normal, vectors, apex, steps, looks }) => answers::Pick {
+            steps,
+            looks,
+            normal: point(normal),
+            m0: point(vectors[0]),
+            m1: point(vectors[1]),
+            m2: point(vectors[2]),
+            apex: point(apex),
+            ..Default::default()
+        },
+        Err(Refusal { number, place, steps, looks }) => {
+            answers::Pick { number, place: point(place), steps, looks, ..Default::default() }
+        }
+    }
+}
+
+pub fn read(answer: Result<Sizes, p4::Refusal>) -> answers::Read {
+    match answer {
+        Ok(Sizes { width, height, depth }) => answers::Read {
+            width: width as u32,
+            height: height as u32,
+            depth: depth as u32,
+            ..Default::default()
+        },
+        Err(p4::Refusal { number, value }) => answers::Read { number, value, ..Default::default() },
+    }
+}
+
+pub fn written(answer: Result<u64, p4::Refusal>) -> answers::Written {
+    match answer {
+        Ok(value) => answers::Written { number: 0, value },
+        Err(p4::Refusal { number, value }) => answers::Written { number, value },
+    }
+}
+
+pub fn lit(normal: Point) -> answers::Lit {
+    match display::display(normal) {
+        Ok([x, y, z]) => answers::Lit { number: 0, x, y, z },
+        Err(number) => answers::Lit { number, ..Default::default() },
+    }
+}

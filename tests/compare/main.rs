@@ -1,0 +1,207 @@
+//! Holds the panel's library to the second program: every entry point, every listed case, and
+//! seeded random, damaged and extreme inputs, with the lent buffers compared whole.
+//!
+//!   compare [SEED [KIND..]]            all kinds, or those named
+//!   compare --repeat KIND SEED INDEX   one case again
+//!
+//! The library's calls are made by the program that ULGENZHIR_BRIDGE names (target/tests/bridge),
+//! sessions by the one that ULGENZHIR_WEDGE names (target/bin/wedge), both under the emulator
+//! ULGENZHIR_RUN if there is one. It runs at the top of the repository.
+
+#[path = "../shared/answers.rs"]
+mod answers;
+mod bridge;
+mod call;
+#[path = "../shared/chance.rs"]
+mod chance;
+mod displays;
+mod flat;
+mod listed;
+mod reads;
+#[path = "../shared/session_texts.rs"]
+mod session_texts;
+mod sessions;
+mod stacks;
+mod tally;
+#[path = "../shared/wedge_lines.rs"]
+mod wedge_lines;
+mod wedges;
+mod writes;
+
+use bridge::Bridge;
+use call::{Answer, Batch, Call, Reply};
+use chance::Chance;
+use std::process::ExitCode;
+use tally::Tally;
+
+/// How a case is made from its own chance and its index.
+enum Make {
+    Calls(fn(&mut Chance, u64) -> Vec<Call>),
+    Session(fn(&mut Chance, u64) -> Vec<u8>),
+}
+
+use Make::{Calls, Session};
+
+struct Kind {
+    name: &'static str,
+    cases: u64,
+    make: Make,
+    /// Answers that must come up, so that the kind shows what it is meant to show.
+    meets: &'static str,
+}
+
+const fn kind(name: &'static str, cases: u64, make: Make, meets: &'static str) -> Kind {
+    Kind { name, cases, make, meets }
+}
+
+const KINDS: &[Kind] = &[
+    kind("listed", 1, Calls(listed::calls), "0 1 2 3 4 5 6 7 8 9 10 21 22 23 24 25 27 30"),
+    kind("wedge_levels", wedges::SMALL_NORMALS, Calls(wedges::levels), "0 4 8"),
+    kind("wedge", 400_000, Calls(wedges::any), "0 1 2 3 4 5 6 7 8 9 10"),
+    kind("stack", 60_000, Calls(stacks::any), "0 1 2 3 4 5 6 7 8 9 10"),
+    kind("stack_unforeseen", 60_000, Calls(stacks::unforeseen), "0 7 8 9 10"),
+    kind("read", 300_000, Calls(reads::any), "0 21 22 23 24 25 27"),
+    kind("read_header", 200, Calls(reads::headers), "0 21 22 23 24 25 27"),
+    kind("read_many", 600, Calls(reads::many), "0 21 24 26 27"),
+    kind("write", 100_000, Calls(writes::any), "0 3 27"),
+    kind("display_small", 31, Calls(displays::small), "0 30"),
+    kind("display", 300_000, Calls(displays::any), "0 30"),
+    kind("session_listed", sessions::LISTED, Session(sessions::listed), "N R B cut"),
+    kind("session", 200, Session(sessions::any), "N R B cut"),
+];
+
+const DEFAULT_SEED: u64 = 7;
+
+fn main() -> ExitCode {
+    second::checks::all();
+    let words: Vec<String> = std::env::args().skip(1).collect();
+    if words.first().map_or(false, |word| word == "--repeat") {
+        return repeat(&words[1..]);
+    }
+    let seed = words.first().map_or(DEFAULT_SEED, |word| word.parse().expect("SEED is a number"));
+    let named = words.get(1..).unwrap_or(&[]);
+    println!("seed {seed}");
+    let mut bridge = Bridge::start();
+    let mut calls = 0;
+    for kind in KINDS.iter().filter(|k| named.is_empty() || named.iter().any(|n| n == k.name)) {
+        match all_cases(kind, seed, &mut bridge) {
+            Ok(tally) => calls += tally.calls,
+            Err(difference) => {
+                println!("DIFFERENCE in {}: {difference}", kind.name);
+                return ExitCode::FAILURE;
+            }
+        }
+    }
+    println!("compared {calls}");
+    ExitCode::SUCCESS
+}
+
+fn repeat(words: &[String]) -> ExitCode {
+    let (name, seed, index) = match words {
+        [name, seed, index] => (name, seed, index),
+        _ => panic!("--repeat KIND SEED INDEX"),
+    };
+    let kind = KINDS.iter().find(|kind| kind.name == name).expect("KIND is one of the kinds");
+    let number = |word: &String| word.parse::<u64>().expect("SEED and INDEX are numbers");
+    let (seed, index) = (number(seed), number(index));
+    let mut tally = Tally::default();
+    match some_cases(kind, seed, index..index + 1, &mut Bridge::start(), &mut tally) {
+        Ok(_) => {
+            println!("no difference in {} calls: {tally}", tally.calls);
+            ExitCode::SUCCESS
+        }
+        Err(difference) => {
+            println!("DIFFERENCE in {name}: {difference}");
+            ExitCode::FAILURE
+        }
+    }
+}
+
+fn all_cases(kind: &Kind, seed: u64, bridge: &mut Bridge) -> Result<Tally, String> {
+    let mut tally = Tally::default();
+    let mut index = 0;
+    while index < kind.cases {
+        index = some_cases(kind, seed, index..kind.cases, bridge, &mut tally)?;
+    }
+    println!("{:17} {:7} calls: {tally}", kind.name, tally.calls);
+    match kind.meets.split(' ').find(|label| !tally.met(label)) {
+        Some(label) => Err(format!("{label} never came up with seed {seed}")),
+        None => Ok(tally),
+    }
+}
+
+/// As many cases from the front as make a batch; gives the next index.
+fn some_cases(
+    kind: &Kind,
+    seed: u64,
+    cases: std::ops::Range<u64>,
+    bridge: &mut Bridge,
+    tally: &mut Tally,
+) -> Result<u64, String> {
+    let chance = |index| Chance::of(seed, kind.name, index);
+    let again = |index: u64| format!("again: compare --repeat {} {seed} {index}", kind.name);
+    match kind.make {
+        Session(make) => {
+            let mut chance = chance(cases.start);
+            let input = make(&mut chance, cases.start);
+            sessions::compare(&mut chance, &input, tally)
+                .map_err(|difference| format!("{difference}\n{}", again(cases.start)))?;
+            Ok(cases.start + 1)
+        }
+        Calls(make) => {
+            let mut batch = Vec::new();
+            let mut bytes = 0;
+            let mut index = cases.start;
+            while index < cases.end && bytes < BATCH_BYTES {
+                for call in make(&mut chance(index), index) {
+                    bytes += call.size();
+                    batch.push((index, call));
+                }
+                index += 1;
+            }
+            compare_batch(&batch, bridge, tally)
+                .map_err(|(index, difference)| format!("{difference}\n{}", again(index)))?;
+            Ok(index)
+        }
+    }
+}
+
+const BATCH_BYTES: usize = 1 << 20;
+
+/// Which call of a batch the library did not survive: each alone, in a new bridge.
+fn culprit(batch: &[(u64, Call)], error: String) -> (u64, String) {
+    let fails = |call: &Call| {
+        let mut alone = Batch::default();
+        call.send(&mut alone);
+        let mut bridge = Bridge::start();
+        bridge.send(&alone.text).and_then(|()| bridge.receive()).is_err()
+    };
+    match batch.iter().find(|(_, call)| fails(call)) {
+        Some((index, call)) => (*index, format!("{}\n{error}", call.told())),
+        None => (batch[0].0, format!("a batch from here on\n{error}")),
+    }
+}
+
+/// The second program answers while the library does.
+fn compare_batch(
+    batch: &[(u64, Call)],
+    bridge: &mut Bridge,
+    tally: &mut Tally,
+) -> Result<(), (u64, String)> {
+    let mut sent = Batch::default();
+    batch.iter().for_each(|(_, call)| call.send(&mut sent));
+    bridge.send(&sent.text).map_err(|error| culprit(batch, error))?;
+    let answers: Vec<Answer> = batch.iter().map(|(_, call)| call.second()).collect();
+    let text = bridge.receive().map_err(|error| culprit(batch, error))?;
+    let mut reply = Reply { text, at: 0 };
+    for ((index, call), second) in batch.iter().zip(&answers) {
+        let library = call.receive(&mut reply);
+        tally.call(second.number());
+        if *second != library {
+            let (ours, theirs) = (second.told(&library), library.told(second));
+            let told = format!("{}\nsecond  {ours}\nlibrary {theirs}", call.told());
+            return Err((*index, told));
+        }
+    }
+    Ok(())
+}

@@ -1,0 +1,234 @@
+//! Picks on stacks.
+
+use crate::call::{Call, OnStack};
+use crate::chance::Chance;
+use crate::wedge_lines::{frame, level, reach, sizes_of_normal};
+use second::pick::pick;
+use second::point::{dot, lay, minus, plus, signs, Point};
+use second::solid::{Sizes, Solid};
+use std::cell::RefCell;
+use std::collections::HashMap;
+
+fn side(chance: &mut Chance, most: i64) -> i64 {
+    match chance.below(8) {
+        0 => chance.between(1, 3.min(most)),
+        1 => most,
+        2 => (most / 8 * 8).max(1),
+        _ => chance.between((most / 2).max(1), most),
+    }
+}
+
+fn sides(chance: &mut Chance) -> Point {
+    let most = match chance.below(400) {
+        0 => 256,
+        1..=3 => 130,
+        4..=39 => 70,
+        40..=199 => 36,
+        _ => 20,
+    };
+    [0, 1, 2].map(|_| side(chance, most))
+}
+
+/// A stack under construction: what is filled, with noise in the padding bits.
+struct Block {
+    sizes: Sizes,
+    bytes: Vec<u8>,
+}
+
+impl Block {
+    fn of(
+        chance: &mut Chance,
+        [width, height, depth]: Point,
+        filled: impl Fn(Point) -> bool,
+    ) -> Block {
+        let sizes = Sizes { width, height, depth };
+        let mut bytes = chance.bytes(sizes.stack_bytes());
+        for z in 0..depth {
+            for y in 0..height {
+                for x in 0..width {
+                    set(&mut bytes, sizes, [x, y, z], filled([x, y, z]));
+                }
+            }
+        }
+        Block { sizes, bytes }
+    }
+
+    fn contains(&self, [x, y, z]: Point) -> bool {
+        let Sizes { width, height, depth } = self.sizes;
+        (0..width).contains(&x) && (0..height).contains(&y) && (0..depth).contains(&z)
+    }
+
+    fn set(&mut self, point: Point, filled: bool) {
+        if self.contains(point) {
+            set(&mut self.bytes, self.sizes, point, filled);
+        }
+    }
+}
+
+fn set(bytes: &mut [u8], sizes: Sizes, point: Point, filled: bool) {
+    let (byte, bit) = sizes.bit_place(point);
+    bytes[byte] = if filled { bytes[byte] | bit } else { bytes[byte] & !bit };
+}
+
+/// The middle, near it, or anywhere.
+fn start(chance: &mut Chance, sides: Point) -> Point {
+    let kind = chance.below(4);
+    sides.map(|side| match kind {
+        0 => chance.between(0, side - 1),
+        1 => side / 2,
+        _ => (side / 2 + chance.between(-3, 3)).clamp(0, side - 1),
+    })
+}
+
+/// A slope at some level of q, then perhaps some voxels turned over.
+fn slope(chance: &mut Chance, sides: Point, start: Point, signs: Point, reach: i64) -> Block {
+    let sizes = sizes_of_normal(chance, reach);
+    let normal = lay(signs, sizes);
+    let h = dot(normal, plus(start, signs)) - level(chance, sizes.iter().sum());
+    let mut block = Block::of(chance, sides, |point| dot(normal, point) < h);
+    if chance.percent(30) {
+        let most = chance.one_of(&[1, 5, 50]);
+        for _ in 0..chance.between(1, most) {
+            let near = plus(start, [0, 1, 2].map(|_| chance.between(-6, 6)));
+            block.set(near, chance.percent(50));
+        }
+    }
+    block
+}
+
+/// Empty but for p, voxels beside q on each axis, and a few near it.
+fn few(chance: &mut Chance, sides: Point, start: Point, signs: Point) -> Block {
+    let apex = plus(start, signs);
+    let mut block = Block::of(chance, sides, |_| false);
+    block.set(start, true);
+    for unit in second::point::UNITS {
+        block.set(minus(apex, lay(signs, unit)), !chance.percent(3));
+    }
+    let room = chance.one_of(&[1, 2, 2, 3, 5]);
+    for _ in 0..chance.between(0, 12) {
+        block.set(plus(apex, [0, 1, 2].map(|_| chance.between(-room, room))), true);
+    }
+    block.set(apex, chance.percent(2));
+    block
+}
+
+fn noise(chance: &mut Chance, sides: Point, start: Point, signs: Point) -> Block {
+    let density = chance.one_of(&[5, 20, 50, 80, 95]);
+    let draw = RefCell::new(Chance::of(chance.bits(), "noise", 0));
+    let mut block = Block::of(chance, sides, |_| draw.borrow_mut().percent(density));
+    if chance.percent(80) {
+        block.set(start, true);
+        block.set(plus(start, signs), false);
+    }
+    block
+}
+
+fn block(chance: &mut Chance, sides: Point, start: Point, signs: Point, reach: i64) -> Block {
+    match chance.below(12) {
+        0 => Block::of(chance, sides, |_| true),
+        1 => Block::of(chance, sides, |_| false),
+        2 | 3 => noise(chance, sides, start, signs),
+        4..=6 => few(chance, sides, start, signs),
+        _ => slope(chance, sides, start, signs, reach),
+    }
+}
+
+const ENDS: [i32; 12] =
+    [i32::MIN, i32::MIN + 1, -1, 0, 1, 255, 256, 257, 1 << 16, 1 << 24, i32::MAX - 1, i32::MAX];
+
+/// One number of the call made extreme, or the bytes cut.
+fn damage(chance: &mut Chance, asked: &mut OnStack) {
+    let axis = chance.below(3) as usize;
+    match chance.below(6) {
+        0 | 1 => asked.sizes[axis] = chance.one_of(&ENDS),
+        2 => asked.start[axis] = chance.one_of(&ENDS),
+        3 => asked.sizes[axis] += chance.one_of(&[-1, 1]),
+        _ => {
+            let keep = asked.bytes.len() as u64;
+            let fewer = [keep.saturating_sub(1), 0, chance.below(keep + 1)];
+            asked.bytes.truncate(chance.one_of(&fewer) as usize);
+        }
+    }
+}
+
+pub fn any(chance: &mut Chance, _: u64) -> Vec<Call> {
+    let sides = sides(chance);
+    let start = start(chance, sides);
+    let (frame, reach) = (frame(chance), reach(chance));
+    let reach = if chance.percent(60) { chance.between(3, 7) } else { reach };
+    let Block { mut bytes, .. } = block(chance, sides, start, signs(frame & 7), reach);
+    if chance.percent(50) {
+        let behind = chance.len_to(40);
+        bytes.extend(chance.bytes(behind));
+    }
+    let mut asked = on_stack(sides, bytes, start, frame, reach);
+    if chance.percent(8) {
+        damage(chance, &mut asked);
+    }
+    vec![Call::Stack(asked)]
+}
+
+pub fn on_stack(sides: Point, bytes: Vec<u8>, start: Point, frame: i64, reach: i64) -> OnStack {
+    OnStack {
+        sizes: sides.map(|side| side as i32),
+        bytes,
+        start: start.map(|part| part as i32),
+        frame: frame as i32,
+        reach: reach as i32,
+    }
+}
+
+/// A solid whose voxels are decided by chance only when the second program looks at them, so that
+/// its walk goes on for long and meets every kind of round.
+struct Unforeseen {
+    sides: Point,
+    chance: RefCell<Chance>,
+    /// How many in a hundred are filled.
+    density: u64,
+    decided: RefCell<HashMap<Point, bool>>,
+}
+
+impl Solid for Unforeseen {
+    fn permitted(&self) -> bool {
+        true
+    }
+
+    fn inside(&self, point: Point) -> bool {
+        (0..3).all(|axis| (0..self.sides[axis]).contains(&point[axis]))
+    }
+
+    fn filled(&self, point: Point) -> bool {
+        let mut decided = self.decided.borrow_mut();
+        let looked_at = decided.len();
+        // p is filled, q is empty, the next few are filled so that the axes fall.
+        *decided.entry(point).or_insert_with(|| match looked_at {
+            0 => true,
+            1 => false,
+            2..=4 => self.chance.borrow_mut().percent(90),
+            _ => self.chance.borrow_mut().percent(self.density),
+        })
+    }
+}
+
+pub fn unforeseen(chance: &mut Chance, _: u64) -> Vec<Call> {
+    let large = if chance.percent(15) { 256 } else { 100 };
+    let side = chance.one_of(&[24, 48, 64, large]);
+    let sides = [0, 1, 2].map(|_| side - chance.between(0, 7));
+    let start = sides.map(|side| side / 2 + chance.between(-2, 2));
+    let (frame, most) = (chance.between(0, 7), chance.one_of(&[6, 8, 16, 32, 64, 128]));
+    let reach = chance.between(3, most);
+    let solid = Unforeseen {
+        sides,
+        chance: RefCell::new(Chance::of(chance.bits(), "decided", 0)),
+        density: chance.one_of(&[5, 15, 30, 50, 70, 90]),
+        decided: RefCell::default(),
+    };
+    let _ = pick(&solid, start, frame, reach);
+    let [width, height, depth] = sides;
+    let sizes = Sizes { width, height, depth };
+    let mut bytes = vec![0; sizes.stack_bytes()];
+    for (&point, &filled) in solid.decided.borrow().iter() {
+        set(&mut bytes, sizes, point, filled);
+    }
+    vec![Call::Stack(on_stack(sides, bytes, start, frame, reach))]
+}

@@ -1,0 +1,40 @@
+//! How many calls were compared, and which answers came up how often.
+
+use std::collections::BTreeMap;
+use std::fmt;
+
+#[derive(Default)]
+pub struct Tally {
+    pub calls: u64,
+    answers: BTreeMap<String, u64>,
+}
+
+impl Tally {
+    pub fn call(&mut self, number: u32) {
+        self.calls += 1;
+        self.note(&number.to_string(), 1);
+    }
+
+    pub fn note(&mut self, label: &str, times: u64) {
+        match self.answers.get_mut(label) {
+            Some(count) => *count += times,
+            None => {
+                self.answers.insert(label.to_string(), times);
+            }
+        }
+    }
+
+    pub fn met(&self, label: &str) -> bool {
+        self.answers.get(label).map_or(false, |&count| count > 0)
+    }
+}
+
+impl fmt::Display for Tally {
+    fn fmt(&self, f: &mut fmt::Formatter) -> fmt::Result {
+        let mut by_number: Vec<_> = self.answers.iter().collect();
+        by_number.sort_by_key(|(label, _)| label.parse().unwrap_or(u32::MAX));
+        let told: Vec<String> =
+            by_number.iter().map(|(label, count)| format!("{label} ×{count}")).collect();
+        f.write_str(&told.join(", "))
+    }
+}

@@ -1,0 +1,75 @@
+//! The panel's library as include/ulgenzhir.h tells it.
+
+use crate::answers::{Lit, Pick, Read, Written};
+
+extern "C" {
+    fn ulgenzhir_pick_wedge(
+        a: i32,
+        b: i32,
+        c: i32,
+        h: i32,
+        px: i32,
+        py: i32,
+        pz: i32,
+        frame: i32,
+        reach: i32,
+    ) -> Pick;
+    fn ulgenzhir_pick_stack(
+        width: i32,
+        height: i32,
+        depth: i32,
+        bytes: *const u8,
+        len: usize,
+        px: i32,
+        py: i32,
+        pz: i32,
+        frame: i32,
+        reach: i32,
+    ) -> Pick;
+    fn ulgenzhir_read_p4(
+        input: *const u8,
+        input_len: usize,
+        rows: *mut u8,
+        rows_len: usize,
+    ) -> Read;
+    fn ulgenzhir_write_p4(
+        width: i32,
+        height: i32,
+        depth: i32,
+        bytes: *const u8,
+        len: usize,
+        out: *mut u8,
+        out_len: usize,
+    ) -> Written;
+    fn ulgenzhir_display(nx: i32, ny: i32, nz: i32) -> Lit;
+}
+
+// Safe: a Rust slice's pointer is never null, and a `&mut` slice overlaps no other.
+
+pub fn pick_wedge([a, b, c, h, x, y, z, frame, reach]: [i32; 9]) -> Pick {
+    unsafe { ulgenzhir_pick_wedge(a, b, c, h, x, y, z, frame, reach) }
+}
+
+pub fn pick_stack(
+    [width, height, depth]: [i32; 3],
+    bytes: &[u8],
+    [x, y, z]: [i32; 3],
+    frame: i32,
+    reach: i32,
+) -> Pick {
+    let (pointer, len) = (bytes.as_ptr(), bytes.len());
+    unsafe { ulgenzhir_pick_stack(width, height, depth, pointer, len, x, y, z, frame, reach) }
+}
+
+pub fn read_p4(input: &[u8], rows: &mut [u8]) -> Read {
+    unsafe { ulgenzhir_read_p4(input.as_ptr(), input.len(), rows.as_mut_ptr(), rows.len()) }
+}
+
+pub fn write_p4([width, height, depth]: [i32; 3], bytes: &[u8], out: &mut [u8]) -> Written {
+    let (pointer, len) = (bytes.as_ptr(), bytes.len());
+    unsafe { ulgenzhir_write_p4(width, height, depth, pointer, len, out.as_mut_ptr(), out.len()) }
+}
+
+pub fn display([x, y, z]: [i32; 3]) -> Lit {
+    unsafe { ulgenzhir_display(x, y, z) }
+}

@@ -1,0 +1,92 @@
+//! The panel's library from its own LLVM module, compiled for a machine that is no x86-64 (see
+//! tests/measure/here). The module is lowered for x86-64, so the calls are written as they look
+//! there: a large struct is stored through a first pointer, a small one comes back as a pair.
+
+use crate::answers::{Lit, Pick, Read, Written};
+
+extern "C" {
+    fn ulgenzhir_pick_wedge(
+        answer: *mut Pick,
+        a: i32,
+        b: i32,
+        c: i32,
+        h: i32,
+        px: i32,
+        py: i32,
+        pz: i32,
+        frame: i32,
+        reach: i32,
+    ) -> *mut Pick;
+    fn ulgenzhir_pick_stack(
+        answer: *mut Pick,
+        width: i32,
+        height: i32,
+        depth: i32,
+        bytes: *const u8,
+        len: usize,
+        px: i32,
+        py: i32,
+        pz: i32,
+        frame: i32,
+        reach: i32,
+    ) -> *mut Pick;
+    fn ulgenzhir_read_p4(
+        answer: *mut Read,
+        input: *const u8,
+        input_len: usize,
+        rows: *mut u8,
+        rows_len: usize,
+    ) -> *mut Read;
+    fn ulgenzhir_write_p4(
+        width: i32,
+        height: i32,
+        depth: i32,
+        bytes: *const u8,
+        len: usize,
+        out: *mut u8,
+        out_len: usize,
+    ) -> Written;
+}
+
+extern "Rust" {
+    /// Number and x, then y and z, in one register of each kind.
+    fn ulgenzhir_display(nx: i32, ny: i32, nz: i32) -> (u64, f64);
+}
+
+pub fn pick_wedge([a, b, c, h, x, y, z, frame, reach]: [i32; 9]) -> Pick {
+    let mut answer = Pick::default();
+    unsafe { ulgenzhir_pick_wedge(&mut answer, a, b, c, h, x, y, z, frame, reach) };
+    answer
+}
+
+pub fn pick_stack(
+    [w, h, d]: [i32; 3],
+    bytes: &[u8],
+    [x, y, z]: [i32; 3],
+    frame: i32,
+    reach: i32,
+) -> Pick {
+    let mut answer = Pick::default();
+    let (from, len) = (bytes.as_ptr(), bytes.len());
+    unsafe { ulgenzhir_pick_stack(&mut answer, w, h, d, from, len, x, y, z, frame, reach) };
+    answer
+}
+
+pub fn read_p4(input: &[u8], rows: &mut [u8]) -> Read {
+    let mut answer = Read::default();
+    let (from, len) = (input.as_ptr(), input.len());
+    unsafe { ulgenzhir_read_p4(&mut answer, from, len, rows.as_mut_ptr(), rows.len()) };
+    answer
+}
+
+pub fn write_p4([width, height, depth]: [i32; 3], bytes: &[u8], out: &mut [u8]) -> Written {
+    let (from, len) = (bytes.as_ptr(), bytes.len());
+    unsafe { ulgenzhir_write_p4(width, height, depth, from, len, out.as_mut_ptr(), out.len()) }
+}
+
+pub fn display([x, y, z]: [i32; 3]) -> Lit {
+    let (front, back) = unsafe { ulgenzhir_display(x, y, z) };
+    let float = |bits: u64| f32::from_bits(bits as u32);
+    let (y, z) = (float(back.to_bits()), float(back.to_bits() >> 32));
+    Lit { number: front as u32, x: float(front >> 32), y, z }
+}

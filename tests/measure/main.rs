@@ -1,0 +1,244 @@
+//! A benchmark, not a test: the library beside plain Rust in one run, as a Markdown table.
+//! The script `here` builds and runs it.
+
+#![allow(dead_code)]
+
+#[path = "../shared/answers.rs"]
+mod answers;
+#[path = "../shared/chance.rs"]
+mod chance;
+#[cfg(target_arch = "x86_64")]
+mod library;
+#[cfg(not(target_arch = "x86_64"))]
+#[path = "lowered.rs"]
+mod library;
+mod plain;
+#[path = "../shared/roomy.rs"]
+mod roomy;
+#[path = "../shared/wedge_lines.rs"]
+mod wedge_lines;
+mod worst;
+
+use chance::Chance;
+use second::listed::slope_stack;
+use second::point::dot;
+use second::session::pick_of;
+use second::solid::WEDGE_SIDE;
+use std::fmt::Debug;
+use std::time::Instant;
+
+const REDRAW_SECONDS: f64 = 0.033;
+const ROUNDS: usize = 51;
+/// The best of 600 climbs over slopes and of 96 over any solids.
+const BEST_SLOPE: u64 = 73;
+const BEST_STACK: u64 = 83;
+
+/// Medians in seconds for one call, and the median of the rounds' ratios.
+struct Timed {
+    name: String,
+    library: f64,
+    plain: f64,
+    ratio: f64,
+}
+
+fn median(mut values: Vec<f64>) -> f64 {
+    values.sort_by(f64::total_cmp);
+    values[values.len() / 2]
+}
+
+/// Read as if by someone else, so that the call is made.
+fn opaque<A>(answer: A) {
+    unsafe { std::ptr::read_volatile(&std::mem::ManuallyDrop::new(answer)) };
+}
+
+/// Seconds for one call when it is made so many times.
+fn seconds<I, A>(inputs: &[I], times: usize, call: &mut impl FnMut(&I) -> A) -> f64 {
+    let begin = Instant::now();
+    for _ in 0..times {
+        for input in inputs {
+            opaque(call(input));
+        }
+    }
+    begin.elapsed().as_secs_f64() / (times * inputs.len()) as f64
+}
+
+/// Both on the same inputs by turns; a round takes about a millisecond at least.
+fn timed<I, A: PartialEq + Debug>(
+    name: &str,
+    inputs: &[I],
+    mut library: impl FnMut(&I) -> A,
+    mut plain: impl FnMut(&I) -> A,
+) -> Timed {
+    for input in inputs {
+        assert_eq!(library(input), plain(input), "{name}: plain Rust differs");
+    }
+    let once = seconds(inputs, 1, &mut library).max(1e-9) * inputs.len() as f64;
+    let times = (0.002 / once).ceil() as usize;
+    let (mut ours, mut theirs) = (Vec::new(), Vec::new());
+    for round in 0..ROUNDS {
+        if round % 2 == 0 {
+            ours.push(seconds(inputs, times, &mut library));
+            theirs.push(seconds(inputs, times, &mut plain));
+        } else {
+            theirs.push(seconds(inputs, times, &mut plain));
+            ours.push(seconds(inputs, times, &mut library));
+        }
+    }
+    let ratio = median(ours.iter().zip(&theirs).map(|(a, b)| a / b).collect());
+    Timed { name: name.into(), library: median(ours), plain: median(theirs), ratio }
+}
+
+/// Accepted picks of seeded slopes with this reach.
+fn typical_lines(reach: i64, count: usize) -> Vec<[i32; 9]> {
+    let mut chance = Chance::of(1, "typical", reach as u64);
+    let mut lines = Vec::new();
+    while lines.len() < count {
+        let mut line = wedge_lines::line(&mut chance);
+        line[8] = reach as i32;
+        if pick_of(line.map(i64::from)).map_or(false, |record| record.steps > 0) {
+            lines.push(line);
+        }
+    }
+    lines
+}
+
+/// One pick on a stack.
+struct Asked<'a> {
+    side: i32,
+    bytes: &'a [u8],
+    start: [i32; 3],
+    reach: i32,
+}
+
+fn timed_stacks(name: &str, asked: &[Asked]) -> Timed {
+    timed(
+        name,
+        asked,
+        |a| library::pick_stack([a.side; 3], a.bytes, a.start, 0, a.reach),
+        |a| plain::pick_stack([a.side; 3], a.bytes, a.start, 0, a.reach),
+    )
+}
+
+/// Slopes in full stacks, asked at their middle.
+fn typical_stacks(rows: &mut Vec<Timed>) {
+    let reach = 16;
+    let normals = [[1, 2, 5], [3, 4, 5], [5, 6, 1], [2, 7, 3], [1, 1, 9], [7, 4, 4]];
+    let stacks: Vec<Vec<u8>> = normals
+        .iter()
+        .map(|&[a, b, c]| slope_stack(256, [a, b, c, dot([a, b, c], [128; 3]) - 2]).1)
+        .collect();
+    let asked: Vec<Asked> =
+        stacks.iter().map(|bytes| Asked { side: 256, bytes, start: [127; 3], reach }).collect();
+    rows.push(timed_stacks("typical picks, stack 256, reach 16", &asked));
+}
+
+fn picks(rows: &mut Vec<Timed>) -> Vec<String> {
+    let mut notes = Vec::new();
+    for reach in [8, 16, 32] {
+        let lines = typical_lines(reach, 400);
+        let name = format!("typical picks, wedge, reach {reach}");
+        rows.push(timed(
+            &name,
+            &lines,
+            |&line| library::pick_wedge(line),
+            |&line| plain::pick_wedge(line),
+        ));
+    }
+    let (line, looks) = worst::worst_slope(WEDGE_SIDE, BEST_SLOPE, 4000);
+    let told = line.map(|number| number.to_string()).join(" ");
+    notes.push(format!("The worst wedge found is `{told}`, {looks} looks."));
+    let name = format!("worst pick found, wedge, {looks} looks");
+    rows.push(timed(&name, &[line], |&l| library::pick_wedge(l), |&l| plain::pick_wedge(l)));
+    typical_stacks(rows);
+    let worst = worst::worst_stack(256, BEST_STACK, 12_000);
+    notes
+        .push(format!("The worst stack found takes {} looks, reach {}.", worst.looks, worst.reach));
+    let asked = Asked { side: 256, bytes: &worst.bytes, start: worst.start, reach: worst.reach };
+    let name = format!("worst pick found, stack 256, {} looks", worst.looks);
+    rows.push(timed_stacks(&name, &[asked]));
+    notes
+}
+
+/// A full stack and one whose rows are padded.
+fn stacks(rows: &mut Vec<Timed>) {
+    for width in [256, 255] {
+        let sizes = [width, 256, 256];
+        let bytes = Chance::of(1, "stack", 0).bytes(1 << 21);
+        let mut file = vec![0; (1 << 21) + 256 * 11];
+        let mut again = file.clone();
+        let written = plain::write_p4(sizes, &bytes, &mut file);
+        file.truncate(written.value as usize);
+        let (mut ours, mut theirs) = (vec![0; 1 << 21], vec![0; 1 << 21]);
+        rows.push(timed(
+            &format!("read {width}×256×256, 2 MiB"),
+            &[()],
+            |()| library::read_p4(&file, &mut ours),
+            |()| plain::read_p4(&file, &mut theirs),
+        ));
+        assert!(ours == theirs, "rows differ");
+        let mut out = again.clone();
+        rows.push(timed(
+            &format!("write {width}×256×256, 2 MiB"),
+            &[()],
+            |()| library::write_p4(sizes, &bytes, &mut out),
+            |()| plain::write_p4(sizes, &bytes, &mut again),
+        ));
+        assert!(out == again, "files differ");
+    }
+}
+
+fn displays(rows: &mut Vec<Timed>) {
+    let mut chance = Chance::of(1, "display", 0);
+    let normals: Vec<[i32; 3]> =
+        (0..1000).map(|_| [0, 1, 2].map(|_| chance.between(-1023, 1023) as i32)).collect();
+    rows.push(timed(
+        "display normal",
+        &normals,
+        |&normal| library::display(normal),
+        |&normal| plain::display(normal),
+    ));
+}
+
+fn machine() -> String {
+    let told = std::process::Command::new("lscpu").output();
+    let text = told.map_or(String::new(), |told| String::from_utf8_lossy(&told.stdout).into());
+    let model = text.lines().find_map(|line| line.strip_prefix("Model name:"));
+    format!("{} ({})", model.unwrap_or("unknown processor").trim(), std::env::consts::ARCH)
+}
+
+fn told(seconds: f64) -> String {
+    match seconds {
+        s if s < 1e-6 => format!("{:.1} ns", s * 1e9),
+        s if s < 1e-3 => format!("{:.2} µs", s * 1e6),
+        s => format!("{:.3} ms", s * 1e3),
+    }
+}
+
+fn main() {
+    let mut rows = Vec::new();
+    let notes = picks(&mut rows);
+    stacks(&mut rows);
+    displays(&mut rows);
+    println!("Machine: {}. Medians of {ROUNDS} rounds, both by turns.\n", machine());
+    println!("| | library | plain Rust | ratio |\n|---|---|---|---|");
+    for row in &rows {
+        println!(
+            "| {} | {} | {} | {:.2} |",
+            row.name,
+            told(row.library),
+            told(row.plain),
+            row.ratio
+        );
+    }
+    println!();
+    let worst = rows.iter().filter(|row| row.name.starts_with("worst")).map(|row| row.library);
+    let worst = worst.fold(0.0, f64::max);
+    for note in notes {
+        println!("{note}");
+    }
+    let share = REDRAW_SECONDS / worst;
+    println!(
+        "The slowest of these picks takes {}: {share:.0} of them fit in a redraw of 33 ms.",
+        told(worst)
+    );
+}

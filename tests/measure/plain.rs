@@ -1,0 +1,432 @@
+//! The same walk, reader, writer and display normal as a Rust programmer would write them for
+//! speed: small numbers, early ends, slices copied whole. What the library is timed against.
+
+use crate::answers::{Lit, Pick, Point, Read, Written};
+
+type Vector = [i32; 3];
+
+pub trait Solid {
+    fn sides(&self) -> Vector;
+    fn filled(&self, point: Vector) -> bool;
+}
+
+pub struct Wedge {
+    pub abc: Vector,
+    pub h: i32,
+}
+
+impl Solid for Wedge {
+    #[inline]
+    fn sides(&self) -> Vector {
+        [1024; 3]
+    }
+
+    #[inline]
+    fn filled(&self, point: Vector) -> bool {
+        dot(self.abc, point) < self.h
+    }
+}
+
+pub struct Stack<'a> {
+    pub sides: Vector,
+    pub row_bytes: usize,
+    pub bytes: &'a [u8],
+}
+
+impl Solid for Stack<'_> {
+    #[inline]
+    fn sides(&self) -> Vector {
+        self.sides
+    }
+
+    #[inline]
+    fn filled(&self, [x, y, z]: Vector) -> bool {
+        let row = (z * self.sides[1] + y) as usize;
+        self.bytes[row * self.row_bytes + (x as usize >> 3)] & (0x80 >> (x & 7)) != 0
+    }
+}
+
+#[inline]
+fn plus(a: Vector, b: Vector) -> Vector {
+    [a[0] + b[0], a[1] + b[1], a[2] + b[2]]
+}
+
+#[inline]
+fn minus(a: Vector, b: Vector) -> Vector {
+    [a[0] - b[0], a[1] - b[1], a[2] - b[2]]
+}
+
+#[inline]
+fn times(l: i32, a: Vector) -> Vector {
+    [l * a[0], l * a[1], l * a[2]]
+}
+
+#[inline]
+fn dot(a: Vector, b: Vector) -> i32 {
+    a[0] * b[0] + a[1] * b[1] + a[2] * b[2]
+}
+
+#[inline]
+fn lay(signs: Vector, u: Vector) -> Vector {
+    [signs[0] * u[0], signs[1] * u[1], signs[2] * u[2]]
+}
+
+fn cross(a: Vector, b: Vector) -> Vector {
+    [a[1] * b[2] - a[2] * b[1], a[2] * b[0] - a[0] * b[2], a[0] * b[1] - a[1] * b[0]]
+}
+
+fn point([x, y, z]: Vector) -> Point {
+    Point { x, y, z }
+}
+
+#[inline]
+fn inside(sides: Vector, point: Vector) -> bool {
+    (point[0] as u32) < sides[0] as u32
+        && (point[1] as u32) < sides[1] as u32
+        && (point[2] as u32) < sides[2] as u32
+}
+
+struct Walk<'a, S> {
+    solid: &'a S,
+    sides: Vector,
+    apex: Vector,
+    signs: Vector,
+    reach: i32,
+    steps: u32,
+    looks: u32,
+}
+
+/// A refusal's number and place.
+struct Stop(u32, Vector);
+
+const PAIRS: [(usize, usize); 6] = [(0, 1), (0, 2), (1, 0), (1, 2), (2, 0), (2, 1)];
+const UNITS: [Vector; 3] = [[1, 0, 0], [0, 1, 0], [0, 0, 1]];
+
+impl<S: Solid> Walk<'_, S> {
+    #[inline]
+    fn look(&mut self, point: Vector) -> Result<bool, Stop> {
+        if !inside(self.sides, point) {
+            return Err(Stop(8, point));
+        }
+        self.looks += 1;
+        Ok(self.solid.filled(point))
+    }
+
+    fn falls(&mut self, u: Vector) -> Result<bool, Stop> {
+        let laid = lay(self.signs, u);
+        let mut power = 1;
+        loop {
+            if self.look(plus(self.apex, times(power, laid)))? {
+                return Ok(true);
+            }
+            if power >= self.reach {
+                return Ok(false);
+            }
+            power *= 2;
+        }
+    }
+
+    fn begin(&mut self, start: Vector) -> Result<(), Stop> {
+        if !self.look(start)? {
+            return Err(Stop(5, start));
+        }
+        if self.look(self.apex)? {
+            return Err(Stop(6, self.apex));
+        }
+        for unit in UNITS {
+            if !self.falls(times(-1, unit))? {
+                return Err(Stop(7, minus(self.apex, lay(self.signs, unit))));
+            }
+        }
+        Ok(())
+    }
+
+    fn rounds(&mut self) -> Result<[Vector; 3], Stop> {
+        let mut m = UNITS;
+        loop {
+            let mut falling = [false; 6];
+            for (fell, (k, l)) in falling.iter_mut().zip(PAIRS) {
+                *fell = self.falls(minus(m[l], m[k]))?;
+            }
+            if falling == [false; 6] {
+                return Ok(m);
+            }
+            if self.steps as i32 == self.reach - 3 {
+                return Err(Stop(9, self.apex));
+            }
+            let (k, l) = choice(&m, falling);
+            m[k] = minus(m[k], m[l]);
+            self.steps += 1;
+        }
+    }
+
+    fn end(&mut self, start: Vector) -> Result<Pick, Stop> {
+        self.begin(start)?;
+        let m = self.rounds()?;
+        let n = plus(plus(cross(m[0], m[1]), cross(m[1], m[2])), cross(m[2], m[0]));
+        if n.iter().map(|part| part.abs()).sum::<i32>() > self.reach {
+            return Err(Stop(10, self.apex));
+        }
+        let laid = |u| point(lay(self.signs, u));
+        Ok(Pick {
+            number: 0,
+            place: point([0; 3]),
+            steps: self.steps,
+            looks: self.looks,
+            normal: laid(n),
+            m0: laid(m[0]),
+            m1: laid(m[1]),
+            m2: laid(m[2]),
+            apex: point(self.apex),
+        })
+    }
+}
+
+type Row = [i64; 4];
+
+#[inline]
+fn row(d: Vector) -> Row {
+    [d[0], d[1], d[2], dot(d, d)].map(i64::from)
+}
+
+/// The six two by two minors of two rows, in the order 01 02 03 12 13 23.
+#[inline]
+fn minors(a: Row, b: Row) -> [i64; 6] {
+    let minor = |i: usize, j: usize| a[i] * b[j] - a[j] * b[i];
+    [minor(0, 1), minor(0, 2), minor(0, 3), minor(1, 2), minor(1, 3), minor(2, 3)]
+}
+
+/// The four by four determinant by the minors of its upper and its lower two rows.
+#[inline]
+fn determinant(upper: &[i64; 6], lower: [i64; 6]) -> i64 {
+    upper[0] * lower[5] - upper[1] * lower[4] + upper[2] * lower[3] + upper[3] * lower[2]
+        - upper[4] * lower[1]
+        + upper[5] * lower[0]
+}
+
+fn choice(m: &[Vector; 3], falling: [bool; 6]) -> (usize, usize) {
+    let upper = minors(row(minus(m[0], m[1])), row(minus(m[0], m[2])));
+    let rows = PAIRS.map(|(k, l)| row(plus(minus(m[l], m[k]), m[0])));
+    for chosen in (0..6).filter(|&pair| falling[pair]) {
+        let inside = |other: usize| {
+            falling[other]
+                && other != chosen
+                && determinant(&upper, minors(rows[chosen], rows[other])) < 0
+        };
+        if !(0..6).any(inside) {
+            return PAIRS[chosen];
+        }
+    }
+    unreachable!("some sphere is empty")
+}
+
+fn refused(number: u32, place: Vector, steps: u32, looks: u32) -> Pick {
+    Pick { number, place: point(place), steps, looks, ..Default::default() }
+}
+
+fn pick<S: Solid>(solid: &S, permitted: bool, start: Vector, frame: i32, reach: i32) -> Pick {
+    if !(3..=256).contains(&reach) {
+        return refused(1, [0; 3], 0, 0);
+    }
+    if !(0..=7).contains(&frame) {
+        return refused(2, [0; 3], 0, 0);
+    }
+    if !permitted {
+        return refused(3, [0; 3], 0, 0);
+    }
+    let sides = solid.sides();
+    if !inside(sides, start) {
+        return refused(4, start, 0, 0);
+    }
+    let signs = [1 - 2 * (frame & 1), 1 - (frame & 2), 1 - (frame >> 1 & 2)];
+    let apex = plus(start, signs);
+    if !inside(sides, apex) {
+        return refused(4, apex, 0, 0);
+    }
+    let mut walk = Walk { solid, sides, apex, signs, reach, steps: 0, looks: 0 };
+    walk.end(start)
+        .unwrap_or_else(|Stop(number, place)| refused(number, place, walk.steps, walk.looks))
+}
+
+#[inline(never)]
+pub fn pick_wedge([a, b, c, h, x, y, z, frame, reach]: [i32; 9]) -> Pick {
+    let permitted = [a, b, c].iter().all(|part| (-1000..=1000).contains(part))
+        && (-4_000_000..=4_000_000).contains(&h);
+    pick(&Wedge { abc: [a, b, c], h }, permitted, [x, y, z], frame, reach)
+}
+
+fn row_bytes(width: i32) -> usize {
+    (width as usize + 7) >> 3
+}
+
+fn sizes_permitted(sizes: Vector, len: usize) -> bool {
+    sizes.iter().all(|size| (1..=256).contains(size))
+        && row_bytes(sizes[0]) * sizes[1] as usize * sizes[2] as usize <= len
+}
+
+#[inline(never)]
+pub fn pick_stack(sizes: [i32; 3], bytes: &[u8], start: [i32; 3], frame: i32, reach: i32) -> Pick {
+    let solid = Stack { sides: sizes, row_bytes: row_bytes(sizes[0]), bytes };
+    pick(&solid, sizes_permitted(sizes, bytes.len()), start, frame, reach)
+}
+
+fn read_refused(number: u32, value: usize) -> Read {
+    Read { number, value: value as u64, ..Default::default() }
+}
+
+fn is_white(byte: u8) -> bool {
+    matches!(byte, b' ' | b'\t' | b'\r' | b'\n')
+}
+
+/// The place after a gap that begins here.
+fn gap(input: &[u8], mut at: usize) -> Result<usize, Read> {
+    if !input.get(at).copied().map_or(false, is_white) {
+        return Err(read_refused(22, at));
+    }
+    loop {
+        match input.get(at) {
+            Some(b'#') => {
+                let end = input[at..].iter().position(|&byte| byte == b'\r' || byte == b'\n');
+                at += end.ok_or(read_refused(22, input.len()))? + 1;
+            }
+            Some(&byte) if is_white(byte) => at += 1,
+            _ => return Ok(at),
+        }
+    }
+}
+
+/// A size and the place of the white space after it.
+fn size(input: &[u8], first: usize) -> Result<(usize, usize), Read> {
+    let mut at = first;
+    let mut value = 0;
+    while let Some(digit) = input.get(at).filter(|byte| byte.is_ascii_digit()) {
+        value = (value * 10 + usize::from(digit - b'0')).min(1000);
+        at += 1;
+    }
+    if at == first || !input.get(at).copied().map_or(false, is_white) {
+        return Err(read_refused(22, at));
+    }
+    if !(1..=256).contains(&value) {
+        return Err(read_refused(23, first));
+    }
+    Ok((value, at))
+}
+
+/// Width, height and the place of the rows.
+fn header(input: &[u8], at: usize) -> Result<(usize, usize, usize), Read> {
+    if !input[at..].starts_with(b"P4") {
+        return Err(read_refused(21, at));
+    }
+    let (width, at) = size(input, gap(input, at + 2)?)?;
+    let (height, at) = size(input, gap(input, at)?)?;
+    Ok((width, height, at + 1))
+}
+
+/// Where the rows of each image begin, and the sizes.
+fn judged(input: &[u8], places: &mut [usize; 256]) -> Result<[usize; 3], Read> {
+    let (width, height, _) = header(input, 0)?;
+    let slice = ((width + 7) >> 3) * height;
+    let mut at = 0;
+    let mut depth = 0;
+    loop {
+        let (w, h, rows) = header(input, at)?;
+        if (w, h) != (width, height) {
+            return Err(read_refused(24, at));
+        }
+        if input.len() - rows < slice {
+            return Err(read_refused(25, input.len()));
+        }
+        places[depth] = rows;
+        depth += 1;
+        at = rows + slice;
+        if at == input.len() {
+            return Ok([width, height, depth]);
+        }
+        if depth == 256 {
+            return Err(read_refused(26, at));
+        }
+    }
+}
+
+/// Rows copied with their padding bits zero.
+fn copy_rows(to: &mut [u8], from: &[u8], width: usize) {
+    to.copy_from_slice(from);
+    if width % 8 != 0 {
+        let row = (width + 7) / 8;
+        let mask = 0xffu8 << (8 - width % 8);
+        to.iter_mut().skip(row - 1).step_by(row).for_each(|last| *last &= mask);
+    }
+}
+
+#[inline(never)]
+pub fn read_p4(input: &[u8], rows: &mut [u8]) -> Read {
+    let mut places = [0; 256];
+    let [width, height, depth] = match judged(input, &mut places) {
+        Ok(sizes) => sizes,
+        Err(refusal) => return refusal,
+    };
+    let slice = (width + 7) / 8 * height;
+    if rows.len() < slice * depth {
+        return read_refused(27, slice * depth);
+    }
+    for (to, &from) in rows.chunks_exact_mut(slice).zip(&places[..depth]) {
+        copy_rows(to, &input[from..from + slice], width);
+    }
+    let [width, height, depth] = [width, height, depth].map(|size| size as u32);
+    Read { number: 0, value: 0, width, height, depth }
+}
+
+/// "P4", LF, width, space, height, LF, and its length.
+fn plain_header(width: i32, height: i32) -> ([u8; 11], usize) {
+    let mut text = *b"P4\n        ";
+    let mut at = 3;
+    for (size, end) in [(width, b' '), (height, b'\n')] {
+        for unit in [100, 10, 1] {
+            if size >= unit {
+                text[at] = b'0' + (size / unit % 10) as u8;
+                at += 1;
+            }
+        }
+        text[at] = end;
+        at += 1;
+    }
+    (text, at)
+}
+
+#[inline(never)]
+pub fn write_p4(sizes: [i32; 3], bytes: &[u8], out: &mut [u8]) -> Written {
+    if !sizes_permitted(sizes, bytes.len()) {
+        return Written { number: 3, value: 0 };
+    }
+    let [width, height, depth] = sizes;
+    let slice = row_bytes(width) * height as usize;
+    let (text, head) = plain_header(width, height);
+    let needed = (head + slice) * depth as usize;
+    if out.len() < needed {
+        return Written { number: 27, value: needed as u64 };
+    }
+    for (image, rows) in out[..needed].chunks_exact_mut(head + slice).zip(bytes.chunks(slice)) {
+        image[..head].copy_from_slice(&text[..head]);
+        copy_rows(&mut image[head..], rows, width as usize);
+    }
+    Written { number: 0, value: needed as u64 }
+}
+
+/// The whole root of a number up to 2^30, which a double holds exactly.
+fn root(square: u64) -> u64 {
+    (square as f64).sqrt() as u64
+}
+
+#[inline(never)]
+pub fn display(normal: [i32; 3]) -> Lit {
+    let within = normal.iter().all(|n| (-1023..=1023).contains(n));
+    if normal == [0; 3] || !within {
+        return Lit { number: 30, ..Default::default() };
+    }
+    let sum = dot(normal, normal) as u64;
+    let [x, y, z] = normal.map(|n| {
+        let square = (((i64::from(n) * i64::from(n)) as u64) << 30) / sum;
+        (root(square) as i32 * n.signum()) as f32 / 32768.0
+    });
+    Lit { number: 0, x, y, z }
+}

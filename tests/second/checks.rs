@@ -1,0 +1,132 @@
+//! The second program gives the listed values. Each check panics where it does not.
+
+use crate::display::display;
+use crate::listed::*;
+use crate::p4;
+use crate::pick::{pick, Refusal};
+use crate::session::{numbers, pick_of, session, MOST_BYTES};
+use crate::solid::{Sizes, Stack};
+
+pub fn all() {
+    lines();
+    triangles();
+    sessions();
+    a_line_cut_at_the_last_byte_read();
+    sum_above_reach();
+    slope_stacks();
+    reads();
+    images_256_and_257();
+    writes();
+    displays();
+}
+
+fn as_sizes([width, height, depth]: [i64; 3]) -> Sizes {
+    Sizes { width, height, depth }
+}
+
+#[cfg_attr(test, test)]
+pub fn lines() {
+    for (input, output) in LINES {
+        assert_eq!(session(input.as_bytes()), format!("{output}\n").as_bytes(), "{input:?}");
+    }
+}
+
+#[cfg_attr(test, test)]
+pub fn triangles() {
+    for (input, vectors) in TRIANGLES {
+        let record = pick_of(numbers(input.as_bytes()).unwrap()).unwrap();
+        assert_eq!(record.vectors, *vectors, "{input}");
+    }
+}
+
+#[cfg_attr(test, test)]
+pub fn sessions() {
+    for (input, output) in SESSIONS {
+        assert_eq!(session(input), *output);
+    }
+}
+
+#[cfg_attr(test, test)]
+pub fn a_line_cut_at_the_last_byte_read() {
+    let line = b"1 1 1 303 100 100 100 0 3\n";
+    let mut input = line.repeat(3000);
+    input.truncate(MOST_BYTES / line.len() * line.len());
+    let whole_lines = MOST_BYTES / line.len();
+    input.extend(b"1 1 1 303 100 100 100 0 3");
+    // 65,536 = 2520 lines of 26 bytes and 16 bytes "1 1 1 303 100 10".
+    assert_eq!((whole_lines, MOST_BYTES % line.len()), (2520, 16));
+    let mut expected = b"N 1 1 1 0 23\n".repeat(2520);
+    expected.extend(b"B\n");
+    assert_eq!(session(&input), expected);
+    // The cut may also make a good line of a longer one.
+    let mut input = vec![b'\n'; MOST_BYTES - 25];
+    input.extend(b"1 1 1 303 100 100 100 0 37\n");
+    let mut expected = b"B\n".repeat(MOST_BYTES - 25);
+    expected.extend(b"N 1 1 1 0 23\n");
+    assert_eq!(session(&input), expected);
+}
+
+#[cfg_attr(test, test)]
+pub fn sum_above_reach() {
+    let (sizes, bytes) = sum_above_reach_stack();
+    let answer = pick(&Stack { sizes, bytes: &bytes }, [31, 31, 31], 0, 5);
+    let Refusal { number, place, steps, .. } = answer.unwrap_err();
+    assert_eq!((number, place, steps), (10, [32, 32, 32], 2));
+    let answer = pick(&Stack { sizes, bytes: &bytes }, [31, 31, 31], 0, 6);
+    assert_eq!(answer.map(|record| record.normal), Ok([3, 2, 1]));
+}
+
+#[cfg_attr(test, test)]
+pub fn slope_stacks() {
+    for case in SLOPE_STACKS {
+        let (sizes, bytes) = slope_stack(case.side, case.slope);
+        let answer = pick(&Stack { sizes, bytes: &bytes }, case.start, 0, case.reach);
+        assert_eq!(crate::session::told(answer), format!("{}\n", case.told));
+    }
+}
+
+#[cfg_attr(test, test)]
+pub fn reads() {
+    for case in READS {
+        let mut rows = vec![0xaa; case.rows.len()];
+        let answer = p4::read(case.input, &mut rows);
+        let expected =
+            case.answer.map(as_sizes).map_err(|(number, value)| p4::Refusal { number, value });
+        assert_eq!(answer, expected, "{}", case.input.escape_ascii());
+        assert_eq!(rows, case.rows, "{}", case.input.escape_ascii());
+    }
+}
+
+#[cfg_attr(test, test)]
+pub fn images_256_and_257() {
+    let one = b"P4 1 1\n\x80";
+    let mut rows = [0; 256];
+    assert_eq!(p4::read(&one.repeat(256), &mut rows), Ok(as_sizes([1, 1, 256])));
+    assert_eq!(rows, [128; 256]);
+    let mut input = one.repeat(256);
+    input.push(b'x');
+    let refused = |number, value| Err(p4::Refusal { number, value });
+    assert_eq!(p4::read(&input, &mut rows), refused(26, 2048));
+    assert_eq!(p4::read(&one.repeat(257), &mut rows), refused(26, 2048));
+    assert_eq!(p4::read(&one.repeat(256), &mut rows[..255]), refused(27, 256));
+}
+
+#[cfg_attr(test, test)]
+pub fn writes() {
+    for case in WRITES {
+        let mut out = vec![0xaa; case.out.len()];
+        let answer = p4::write(as_sizes(case.sizes), case.bytes, &mut out);
+        let expected = case.answer.map_err(|(number, value)| p4::Refusal { number, value });
+        assert_eq!(answer, expected);
+        assert_eq!(out, case.out);
+    }
+}
+
+#[cfg_attr(test, test)]
+pub fn displays() {
+    for (normal, sizes) in DISPLAYS {
+        let expected = sizes.map(|parts| parts.map(|m| m as f32 / 32768.0));
+        let bits = |floats: [f32; 3]| floats.map(f32::to_bits);
+        assert_eq!(display(*normal).map(bits), expected.map(bits), "{normal:?}");
+    }
+}

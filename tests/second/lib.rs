@@ -1,0 +1,12 @@
+//! The second program: document 01 once more, in plain Rust, from its words alone.
+//! It shares no code and no table with the library, takes wide numbers and does no
+//! more than the page says, so that a difference between the two is worth a look.
+
+pub mod checks;
+pub mod display;
+pub mod listed;
+pub mod p4;
+pub mod pick;
+pub mod point;
+pub mod session;
+pub mod solid;

@@ -1,0 +1,266 @@
+//! The cases that document 01 lists, its readings and those of docs/LIMITS.md, with every
+//! expected value written out. The unit checks hold the second program to them, and
+//! the comparison holds the library to them.
+
+use crate::solid::Sizes;
+
+/// A line of a wedge session and what is printed for it.
+pub const LINES: &[(&str, &str)] = &[
+    // W1 to W8.
+    ("1 2 5 808 100 100 100 0 8", "N 1 2 5 5 116"),
+    ("1 2 5 801 100 100 100 0 8", "N 1 2 5 5 144"),
+    ("1 2 5 808 100 100 100 0 7", "R 9 101 101 101 4 92"),
+    ("1 1 1 303 100 100 100 0 3", "N 1 1 1 0 23"),
+    ("1 2 5 808 1 1 1 0 8", "R 6 2 2 2 0 2"),
+    ("0 1 1 202 100 100 100 0 8", "R 7 100 101 101 0 6"),
+    ("1 1 1 3 0 0 0 0 3", "R 8 -1 3 1 0 6"),
+    ("-1 2 5 608 100 100 100 1 8", "N -1 2 5 5 116"),
+    // Reach 2 and 257 give 1; 3 and 256 pass. Frame 8 gives 2. The apex outside gives 4.
+    ("1 1 1 303 100 100 100 0 2", "R 1 0 0 0 0 0"),
+    ("1 1 1 303 100 100 100 0 257", "R 1 0 0 0 0 0"),
+    ("1 1 1 1536 511 511 511 0 3", "N 1 1 1 0 23"),
+    ("1 1 1 1536 511 511 511 0 256", "N 1 1 1 0 59"),
+    ("1 1 1 303 100 100 100 8 8", "R 2 0 0 0 0 0"),
+    ("1 1 1 303 100 100 100 -1 8", "R 2 0 0 0 0 0"),
+    ("1 1 1 303 1023 5 5 0 8", "R 4 1024 6 6 0 0"),
+    ("1 1 1 303 0 5 5 1 8", "R 4 -1 6 6 0 0"),
+    ("1 1 1 303 1024 5 5 0 8", "R 4 1024 5 5 0 0"),
+    ("1 1 1 303 2147483647 5 5 0 8", "R 4 2147483647 5 5 0 0"),
+    ("1 1 1 303 5 -2147483648 5 7 8", "R 4 5 -2147483648 5 0 0"),
+    // The order of 1, 2, 3 and 4; the ends of a wedge's numbers.
+    ("1001 1 1 303 -1 5 5 8 2", "R 1 0 0 0 0 0"),
+    ("1001 1 1 303 -1 5 5 8 3", "R 2 0 0 0 0 0"),
+    ("1001 1 1 303 -1 5 5 7 3", "R 3 0 0 0 0 0"),
+    ("1000 1 1 303 -1 5 5 7 3", "R 4 -1 5 5 0 0"),
+    ("1 -1001 1 303 5 5 5 0 3", "R 3 0 0 0 0 0"),
+    ("1 1 1 4000001 5 5 5 0 3", "R 3 0 0 0 0 0"),
+    ("1 1 1 4000000 5 5 5 0 3", "R 6 6 6 6 0 2"),
+    ("1 1 1 -4000000 5 5 5 0 3", "R 5 5 5 5 0 1"),
+    ("0 0 0 0 5 5 5 0 3", "R 5 5 5 5 0 1"),
+    ("0 0 0 1 5 5 5 0 3", "R 6 6 6 6 0 2"),
+    // Looking only at power 1 would stop at (1,1,4). (The counts are the second program's.)
+    ("2 3 9 1413 100 100 100 0 16", "N 2 3 9 7 178"),
+    // Asking fewer pairs once an opposite has fallen shows here.
+    ("5 2 1 808 100 100 100 0 8", "N 5 2 1 4 95"),
+    // The bound 2 + K(6w - 9) is reached.
+    ("1 1 1 301 100 100 100 0 3", "N 1 1 1 0 29"),
+    // Limits: a slope above the reach may be accepted with another normal.
+    ("5 6 7 1801 100 100 100 0 8", "N 1 1 1 0 35"),
+    ("5 6 7 9216 511 511 511 0 18", "N 5 6 7 7 208"),
+    // Limits: the reach and the box decide "edge", in the middle of the box too.
+    ("1 1 2 2048 511 511 511 0 4", "N 1 1 2 1 37"),
+    ("1 1 2 2048 511 511 511 0 128", "N 1 1 2 1 87"),
+    ("1 1 2 2048 511 511 511 0 256", "R 8 1024 512 256 1 87"),
+    ("3 5 7 7680 511 511 511 0 15", "N 3 5 7 6 155"),
+    ("3 5 7 7680 511 511 511 0 128", "R 8 1024 384 384 6 219"),
+    ("3 5 7 150 11 9 9 0 15", "R 8 -4 26 10 0 12"),
+    // Limits: the most looks of a wedge that a search has found.
+    ("11 754 698 670469 575 703 191 0 64", "R 9 576 704 192 61 2072"),
+    // What the line's form allows and refuses.
+    ("-0 0000000001 1 202 100 100 100 0 8", "R 7 100 101 101 0 6"),
+    ("1 2 5 808 100 100 100 0 00000000008", "B"),
+    ("1 2 5 808 100 100 100 0 +8", "B"),
+    ("1 2 5 808 100 100 100 0", "B"),
+    ("1 2 5 808 100 100 100 0 8 8", "B"),
+    ("1 2 5  808 100 100 100 0 8", "B"),
+    (" 1 2 5 808 100 100 100 0 8", "B"),
+    ("1 2 5 808 100 100 100 0 8 ", "B"),
+    ("1 2 5 808 100 100 100 0 8\r", "B"),
+    ("1 2 5 808 100 100 100 0 8\0", "B"),
+    ("1 2 5 808 100 100 100 0 -", "B"),
+    ("1 2 5 808 100 100 100 0 --8", "B"),
+    ("1 2 5 808 100 100 100 0 2147483648", "B"),
+    ("1 2 5 808 100 100 100 0 2147483647", "R 1 0 0 0 0 0"),
+    ("1 2 5 808 100 100 100 0 -2147483648", "R 1 0 0 0 0 0"),
+    ("1 2 5 808 100 100 100 0 -2147483649", "B"),
+];
+
+/// Lines whose triangle is listed, with the vectors laid in.
+pub const TRIANGLES: &[(&str, [[i64; 3]; 3])] = &[
+    ("1 2 5 808 100 100 100 0 8", [[1, 0, 0], [-1, 1, 0], [-2, -1, 1]]),
+    ("1 2 5 801 100 100 100 0 8", [[1, 0, 0], [-1, 1, 0], [-2, -1, 1]]),
+    ("-1 2 5 608 100 100 100 1 8", [[-1, 0, 0], [1, 1, 0], [2, -1, 1]]),
+    ("1 1 1 303 100 100 100 0 3", [[1, 0, 0], [0, 1, 0], [0, 0, 1]]),
+];
+
+/// A whole session and its output.
+pub const SESSIONS: &[(&[u8], &[u8])] = &[
+    (b"", b""),
+    (b"\n", b"B\n"),
+    (b"\n\n", b"B\nB\n"),
+    (b"x", b"B\n"),
+    (b"1 1 1 303 100 100 100 0 3", b"N 1 1 1 0 23\n"),
+    (b"1 1 1 303 100 100 100 0 3\n", b"N 1 1 1 0 23\n"),
+    (b"1 1 1 303 100 100 100 0 3\n\n1 1 1 3 0 0 0 0 3", b"N 1 1 1 0 23\nB\nR 8 -1 3 1 0 6\n"),
+];
+
+/// A stack that holds a slope, what is asked of it, and the answer as a session tells it.
+pub struct SlopeStack {
+    pub side: i64,
+    /// a b c h
+    pub slope: [i64; 4],
+    pub start: [i64; 3],
+    pub reach: i64,
+    pub told: &'static str,
+}
+
+/// Limits: a stack offers at most 64.
+pub const SLOPE_STACKS: &[SlopeStack] = &[
+    SlopeStack {
+        side: 256,
+        slope: [1, 1, 1, 384],
+        start: [127, 127, 127],
+        reach: 64,
+        told: "N 1 1 1 0 47",
+    },
+    SlopeStack {
+        side: 256,
+        slope: [1, 1, 1, 384],
+        start: [127, 127, 127],
+        reach: 65,
+        told: "R 8 0 256 128 0 12",
+    },
+];
+
+/// The stack of a slope: filled exactly where ax + by + cz < h.
+pub fn slope_stack(side: i64, [a, b, c, h]: [i64; 4]) -> (Sizes, Vec<u8>) {
+    let sizes = Sizes { width: side, height: side, depth: side };
+    let mut bytes = vec![0; sizes.stack_bytes()];
+    for z in 0..side {
+        for y in 0..side {
+            for x in (0..side).filter(|x| a * x + b * y + c * z < h) {
+                let (byte, bit) = sizes.bit_place([x, y, z]);
+                bytes[byte] |= bit;
+            }
+        }
+    }
+    (sizes, bytes)
+}
+
+/// "Filled only" places about q = (32,32,32) of a stack 64 a side: two steps, then refusal 10.
+pub const SUM_ABOVE_REACH: [[i64; 3]; 6] =
+    [[-1, -1, -1], [-1, 0, 0], [0, -1, 0], [0, 0, -1], [-1, 1, 0], [1, -2, 0]];
+
+pub fn sum_above_reach_stack() -> (Sizes, Vec<u8>) {
+    let sizes = Sizes { width: 64, height: 64, depth: 64 };
+    let mut bytes = vec![0; 64 * 64 * 8];
+    for [x, y, z] in SUM_ABOVE_REACH {
+        let (x, y, z) = ((32 + x) as usize, (32 + y) as usize, (32 + z) as usize);
+        bytes[(z * 64 + y) * 8 + x / 8] |= [128, 64, 32, 16, 8, 4, 2, 1][x % 8];
+    }
+    (sizes, bytes)
+}
+
+/// One call of the reader. The lent buffer holds 0xAA all over before it.
+pub struct ReadCase {
+    pub input: &'static [u8],
+    /// Width, height and depth, or the refusal number and the number returned.
+    pub answer: Result<[i64; 3], (u32, u64)>,
+    /// The whole lent buffer after the call.
+    pub rows: &'static [u8],
+}
+
+const fn refused(input: &'static [u8], number: u32, value: u64) -> ReadCase {
+    ReadCase { input, answer: Err((number, value)), rows: &[0xaa; 3] }
+}
+
+const fn read(input: &'static [u8], sizes: [i64; 3], rows: &'static [u8]) -> ReadCase {
+    ReadCase { input, answer: Ok(sizes), rows }
+}
+
+pub const READS: &[ReadCase] = &[
+    // Listed by document 01.
+    refused(b"", 21, 0),
+    refused(b"P41 1", 22, 2),
+    refused(b"P4\n0 1\n", 23, 3),
+    refused(b"P4\n257 1\n", 23, 3),
+    refused(b"P4\n1 0\n", 23, 5),
+    refused(b"P4\n1 257\n", 23, 5),
+    refused(b"P4\n256 1\n", 25, 9),
+    refused(b"P4\n1 256\n", 25, 9),
+    refused(b"P4\n1 1\n", 25, 7),
+    read(b"P4\n1 1\n\xff", [1, 1, 1], &[128, 0xaa, 0xaa]),
+    refused(b"P4\n1 1\n\xff\n", 21, 8),
+    read(
+        b"P4\n256 1\n0123456789abcdef0123456789abcdef",
+        [256, 1, 1],
+        b"0123456789abcdef0123456789abcdef\xaa",
+    ),
+    // A number is judged once the white space after it was seen.
+    refused(b"P4 0x", 22, 4),
+    refused(b"P4 0", 22, 4),
+    refused(b"P4 300 ", 23, 3),
+    refused(b"P4 300", 22, 6),
+    refused(b"P4 1 1", 22, 6),
+    refused(b"P4 18446744073709551617 1\n\0", 23, 3),
+    refused(b"P4 1 4294967297\n\0", 23, 5),
+    read(b"P4 00000000000000000000001 01\n\x80", [1, 1, 1], &[128, 0xaa, 0xaa]),
+    // Gaps and comments.
+    refused(b"P", 21, 0),
+    refused(b"p4 1 1\n\0", 21, 0),
+    refused(b"P4", 22, 2),
+    refused(b"P4#\n1 1\n\0", 22, 2),
+    refused(b"P4 #", 22, 4),
+    refused(b"P4 # 1 1 ", 22, 9),
+    refused(b"P4 1#\n1\n\0", 22, 4),
+    refused(b"P4 1 1#\n\0", 22, 6),
+    refused(b"P4 -1 1\n\0", 22, 3),
+    refused(b"P4\t#a\r#b\n\r\n2#", 22, 12),
+    read(b"P4\t#a\r#b\n\r\n2 #\n 2\t\xff\x7f", [2, 2, 1], &[0xc0, 0x40, 0xaa]),
+    // CR LF after the height: the LF is row data.
+    read(b"P4\r\n1 1\r\n", [1, 1, 1], &[0, 0xaa]),
+    refused(b"P4\r\n1 1\r\n\xff", 21, 9),
+    // Several images: sizes compared after the height, the buffer judged last.
+    read(b"P4 3 1\n\xffP4\n3 1 \x5f", [3, 1, 2], &[0xe0, 0x40]),
+    refused(b"P4 1 1\n\xffP4\n2 1 \xff", 24, 8),
+    refused(b"P4 1 1\n\xffP4\n1 2 \xff\xff", 24, 8),
+    refused(b"P4 1 1\n\xffP4\n2 0 \xff", 23, 13),
+    refused(b"P4 1 1\n\xffP4\n2 1", 22, 14),
+    refused(b"P4 1 1\n\xffP4\n1 1 ", 25, 15),
+    ReadCase { input: b"P4 9 2\n1234", answer: Err((27, 4)), rows: &[0xaa; 3] },
+    ReadCase { input: b"P4 9 2\n1234P", answer: Err((21, 11)), rows: &[] },
+    read(b"P4 9 2\n1234", [9, 2, 1], b"1\x003\x00"),
+];
+
+/// One call of the writer. The lent buffer holds 0xAA all over before it.
+pub struct WriteCase {
+    pub sizes: [i64; 3],
+    pub bytes: &'static [u8],
+    /// Bytes written, or the refusal number and the number returned.
+    pub answer: Result<u64, (u32, u64)>,
+    /// The whole lent buffer after the call.
+    pub out: &'static [u8],
+}
+
+pub const WRITES: &[WriteCase] = &[
+    WriteCase { sizes: [1, 1, 1], bytes: b"\xff", answer: Ok(8), out: b"P4\n1 1\n\x80\xaa" },
+    WriteCase { sizes: [1, 1, 1], bytes: b"\xff", answer: Err((27, 8)), out: &[0xaa; 7] },
+    WriteCase { sizes: [1, 1, 1], bytes: b"", answer: Err((3, 0)), out: b"" },
+    WriteCase { sizes: [0, 1, 1], bytes: b"\xff", answer: Err((3, 0)), out: &[0xaa; 9] },
+    WriteCase { sizes: [1, 257, 1], bytes: &[0; 300], answer: Err((3, 0)), out: &[0xaa; 9] },
+    WriteCase { sizes: [1, 1, -1], bytes: b"\xff", answer: Err((3, 0)), out: &[0xaa; 9] },
+    WriteCase { sizes: [9, 1, 1], bytes: b"\xff", answer: Err((3, 0)), out: &[0xaa; 9] },
+    WriteCase {
+        sizes: [10, 1, 2],
+        bytes: b"\x01\xff\x02\x7f\x03",
+        answer: Ok(20),
+        out: b"P4\n10 1\n\x01\xc0P4\n10 1\n\x02\x40\xaa\xaa\xaa",
+    },
+];
+
+/// Sizes over 32768 with their signs, or the refusal number.
+pub type Displayed = Result<[i64; 3], u32>;
+
+pub const DISPLAYS: &[([i64; 3], Displayed)] = &[
+    ([1, 2, 5], Ok([5982, 11965, 29912])),
+    ([1, 1, 1], Ok([18918, 18918, 18918])),
+    ([-1, 2, -5], Ok([-5982, 11965, -29912])),
+    ([0, 0, 1], Ok([0, 0, 32768])),
+    ([0, -1023, 0], Ok([0, -32768, 0])),
+    ([3, 4, 0], Ok([19660, 26214, 0])),
+    ([0, 0, 0], Err(30)),
+    ([1024, 1, 1], Err(30)),
+    ([1, -1024, 1], Err(30)),
+    ([0, 0, -2147483648], Err(30)),
+    ([2147483647, 0, 0], Err(30)),
+];

@@ -1,0 +1,60 @@
+//! The wedge program's session: the whole text in, the whole text out.
+
+use crate::pick::{pick, Pick};
+use crate::solid::Wedge;
+
+pub const MOST_BYTES: usize = 65_536;
+
+pub fn session(input: &[u8]) -> Vec<u8> {
+    let read = &input[..input.len().min(MOST_BYTES)];
+    let mut lines: Vec<&[u8]> = read.split(|&byte| byte == b'\n').collect();
+    // What follows the last LF is a line only if it is not empty.
+    if lines.last().map_or(false, |last| last.is_empty()) {
+        lines.pop();
+    }
+    lines.into_iter().flat_map(|line| answer(line).into_bytes()).collect()
+}
+
+/// What is printed for one line, its LF with it.
+fn answer(line: &[u8]) -> String {
+    match numbers(line) {
+        Some(nine) => told(pick_of(nine)),
+        None => "B\n".to_string(),
+    }
+}
+
+/// Nine whole numbers parted by single spaces.
+pub fn numbers(line: &[u8]) -> Option<[i64; 9]> {
+    let parts: Option<Vec<i64>> = line.split(|&byte| byte == b' ').map(number).collect();
+    parts?.try_into().ok()
+}
+
+/// An optional minus and 1 to 10 digits within 32 signed bits.
+fn number(text: &[u8]) -> Option<i64> {
+    let digits = text.strip_prefix(b"-").unwrap_or(text);
+    let in_form = (1..=10).contains(&digits.len()) && digits.iter().all(u8::is_ascii_digit);
+    if !in_form {
+        return None;
+    }
+    let size = digits.iter().fold(0, |value, digit| 10 * value + i64::from(digit - b'0'));
+    let value = if text.starts_with(b"-") { -size } else { size };
+    i32::try_from(value).is_ok().then_some(value)
+}
+
+/// A line's numbers: a b c h, p, frame, R.
+pub fn pick_of([a, b, c, h, x, y, z, frame, reach]: [i64; 9]) -> Pick {
+    pick(&Wedge { abc: [a, b, c], h }, [x, y, z], frame, reach)
+}
+
+pub fn told(answer: Pick) -> String {
+    match answer {
+        Ok(record) => {
+            let [x, y, z] = record.normal;
+            format!("N {x} {y} {z} {} {}\n", record.steps, record.looks)
+        }
+        Err(refusal) => {
+            let [x, y, z] = refusal.place;
+            format!("R {} {x} {y} {z} {} {}\n", refusal.number, refusal.steps, refusal.looks)
+        }
+    }
+}

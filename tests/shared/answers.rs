@@ -1,0 +1,49 @@
+//! The structs of include/ulgenzhir.h.
+
+#[repr(C)]
+#[derive(Clone, Copy, Debug, Default, PartialEq, Eq)]
+pub struct Point {
+    pub x: i32,
+    pub y: i32,
+    pub z: i32,
+}
+
+#[repr(C)]
+#[derive(Clone, Copy, Debug, Default, PartialEq, Eq)]
+pub struct Pick {
+    pub number: u32,
+    pub place: Point,
+    pub steps: u32,
+    pub looks: u32,
+    pub normal: Point,
+    pub m0: Point,
+    pub m1: Point,
+    pub m2: Point,
+    pub apex: Point,
+}
+
+#[repr(C)]
+#[derive(Clone, Copy, Debug, Default, PartialEq, Eq)]
+pub struct Read {
+    pub number: u32,
+    pub value: u64,
+    pub width: u32,
+    pub height: u32,
+    pub depth: u32,
+}
+
+#[repr(C)]
+#[derive(Clone, Copy, Debug, Default, PartialEq, Eq)]
+pub struct Written {
+    pub number: u32,
+    pub value: u64,
+}
+
+#[repr(C)]
+#[derive(Clone, Copy, Debug, Default, PartialEq)]
+pub struct Lit {
+    pub number: u32,
+    pub x: f32,
+    pub y: f32,
+    pub z: f32,
+}
