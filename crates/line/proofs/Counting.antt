@@ -17,16 +17,6 @@ use Rattle.rules.specs.Session.{fewDigits}
 use Rattle.line.specs.declared.Digits.the-variants.{Value, NoDigits}
 use Rattle.line.specs.Reading.{digitsOf, DigitsRead}
 
--- ---- a digit
-module _ (b : ℕ) where
-  pub digit-yes : 48 ≤ b → leb b 57 ≡ isDigit b
-  unfolding isDigit
-  digit-yes h = ap (λ (t : Bool). t && leb b 57) (sym (le-leb 48 b h))
-
-  pub digit-no : b < 48 → false ≡ isDigit b
-  unfolding isDigit
-  digit-no h = ap (λ (t : Bool). t && leb b 57) (sym (lt-leb 48 b h))
-
 -- both of a joined test
 both : (a b : Bool) → (a && b) ≡ true → (a ≡ true) × (b ≡ true)
 both true b e = (refl, e)

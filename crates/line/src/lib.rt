@@ -8,7 +8,6 @@ ghost use mathlib.Core.Path.{_≡_};
 ghost use Prim.Native.Nat.{_≤_, _<_};
 ghost use lib.IntN.{pos};
 ghost use lib.ListN.{length};
-ghost use Rattle.rules.specs.Decimals.{isDigit};
 ghost use Rattle.rules.specs.Session.{minus};
 ghost use Rattle.line.specs.Reading.{Found, DigitsRead, NumberRead, signedOf, FieldAt, ThreeAt, Asking, LineRead};
 
@@ -44,12 +43,6 @@ pub fn find(text: &[u8], at: usize, mark: u8) -> usize
     i
 }
 
-fn is_digit(b: u8) -> bool
-    ensures { λ r. ⌜ r ≡ isDigit b ⌝ }
-{
-    if 48 <= b { b <= 57 } else { false }
-}
-
 // One to ten digits.
 fn read_digits(part: &[u8]) -> Digits
     ensures { λ r. ⌜ DigitsRead (now (part .entry)) r ⌝ }
@@ -64,7 +57,7 @@ fn read_digits(part: &[u8]) -> Digits
     let mut v: u64 = 0;
     while i < part.len() {
         let b = part[i];
-        if is_digit(b) {
+        if text::is_digit(b) {
             v = v * 10 + ((b - 48) as u64);
             i = i + 1;
         } else {
