@@ -1,9 +1,9 @@
 -- A whole number up to 32768, divided by 32768 as a float, is that fraction exactly, with the divisor's sign.
 use mathlib.Core.Path.{_≡_, refl, sym, ap, subst, _∙_}
 use mathlib.Core.Bool.{Bool, true, false}
-use Prim.Native.Nat.{ℕ, zero, _*_, _^_, _≤_, _<_}
-use native.Mathlib.Nat.{le-trans, le-refl, lt-of-le-of-lt, mul-assoc, mul-comm, mul-pos, mul-le-mul}
-use lib.Dec.{T, lit<, lit≤}
+use Prim.Native.Nat.{ℕ, _*_, _^_, _≤_}
+use native.Mathlib.Nat.{le-refl, lt-of-le-of-lt, mul-assoc, mul-comm, mul-pos, mul-le-mul}
+use lib.Dec.{T, lit<}
 use lib.IntN.{pos}
 use lib.Ieee.{Float, nan, inf, fin, binary32, round, div, unlike, up, down}
 use lib.Ieee.Exact.{HasValue, round-exact}

@@ -1,7 +1,7 @@
 -- The display normal's theorems: what each float says, for every input that is permitted; and that the promise leaves no choice.
 -- U1 and U2 are among the cases of `rules`.
 use mathlib.Core.Path.{_≡_, refl, sym, ap, subst, _∙_}
-use mathlib.Core.Bool.{Bool, true, false}
+use mathlib.Core.Bool.{true, false}
 use mathlib.Core.Logic.{_≢_}
 use Prim.Native.Nat.{ℕ, zero, suc, _+_, _*_, _^_, _≤_, _<_}
 use native.Mathlib.Nat.{mul-le-mul}
@@ -13,7 +13,7 @@ use Rattle.rules.specs.declared.Light.{Light}
 use Rattle.rules.specs.declared.Display.{Display}
 use Rattle.rules.specs.declared.Display.the-variants.{Lit, Unlit}
 use Rattle.rules.specs.Display.{square, squares, largest, sizeOf, isNegative, component, permittedNormal, light, display, DisplayPromise}
-use Rattle.display.specs.Parts.{Part, Parts}
+use Rattle.display.specs.Parts.{Part}
 use Rattle.display.specs.Roots.{square-mono, largest-low, largest-within, largest-above}
 use Rattle.display.specs.Floats.{exact}
 use Rattle.display.specs.Permitted.{permitted-parts}
@@ -102,5 +102,5 @@ unfolding display
 other-is-refused x y z e = rw (e, display)
 
 -- two answers that the promise allows are equal
-pub display-unique : {x y z : ℤ} {a b : Display} → DisplayPromise x y z a → DisplayPromise x y z b → a ≡ b
-display-unique p q = p .is ∙ sym (q .is)
+pub display-settled : {x y z : ℤ} {a b : Display} → DisplayPromise x y z a → DisplayPromise x y z b → a ≡ b
+display-settled p q = p .is ∙ sym (q .is)

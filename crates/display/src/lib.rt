@@ -37,25 +37,23 @@ fn all_in_range(x: i32, y: i32, z: i32) -> bool
     false
 }
 
-// The largest m with m·m·s at most t, by halves: it is one of the `width` numbers from low on.
-// Every root takes the same turns, whatever s and t are.
+// The largest m with m·m·s at most t, by halves: `high` ends as the first that is too large.
 fn root(s: u64, t: u64) -> u32
     requires { ⌜ Low s t ⌝ }
     ensures { λ r. ⌜ r ≡ largest s t 32768 ⌝ }
 {
-    let q = t / s;
     let mut low: u32 = 0;
-    let mut width: u32 = 32769;
-    while 1 < width {
-        let half = width / 2;
-        let middle = low + half;
+    let mut high: u32 = 32769;
+    while 1 < high - low {
+        let middle = low + (high - low) / 2;
         let m = middle as u64;
-        width = width - half;
-        if m * m <= q {
+        if m * m * s <= t {
             low = middle;
+        } else {
+            high = middle;
         }
     }
-    low
+    high - 1
 }
 
 fn size_over(s: u64, n: i32) -> u32

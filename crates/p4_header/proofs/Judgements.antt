@@ -1,13 +1,13 @@
 -- Each way out of the header's functions: the definition goes the same way.
 use mathlib.Core.Path.{_≡_, refl, sym, ap, _∙_}
 use mathlib.Core.Bool.{Bool, true, false, not, _&&_}
-use mathlib.Core.List.{List, [], _∷_}
+use mathlib.Core.List.{List}
 use Prim.Native.Nat.{ℕ, _+_, _≤_, _<_, min}
 use native.Mathlib.Omega.{arith}
 use lib.ListN.{length, getD, drop, List·getD-eq-default}
 use lib.Dec.{leb, ltb}
 use borrow.Author.Tests.{le-leb, lt-leb, leb-true, leb-false, lt-ltb, le-ltb, not-true, not-false}
-use Rattle.rules.specs.P4.{Judged, good, wrong, _>>=_, _>>_, judge, isEnd, isWhite, stands, magic, white, mix, digitsAt, Field, fieldAt, Header, headerAt}
+use Rattle.rules.specs.P4.{Judged, good, wrong, _>>=_, _>>_, judge, isEnd, isWhite, magic, white, digitsAt, Field, fieldAt, headerAt}
 use Rattle.p4_laws.specs.Judging.{on, off, pass, fail, both, not-first, not-second}
 use Rattle.p4_header.specs.declared.PlaceRead.{PlaceRead}
 use Rattle.p4_header.specs.declared.PlaceRead.the-variants.{At, NotAt}
@@ -15,7 +15,7 @@ use Rattle.p4_header.specs.declared.FieldRead.{FieldRead}
 use Rattle.p4_header.specs.declared.FieldRead.the-variants.{Value, NoValue}
 use Rattle.p4_header.specs.declared.HeaderRead.{HeaderRead}
 use Rattle.p4_header.specs.declared.HeaderRead.the-variants.{Sizes, NoSizes}
-use Rattle.p4_header.specs.Reads.{place, field, header, sizesAt, Stands, White, Mix, Digits, FieldIs, SizesAre, HeaderIs}
+use Rattle.p4_header.specs.Reads.{place, field, sizesAt, Stands, White, Mix, Digits, FieldIs, SizesAre, HeaderIs}
 
 -- ---- a white space byte
 module _ (s : List ℕ) (at : ℕ) where

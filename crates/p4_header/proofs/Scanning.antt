@@ -1,7 +1,7 @@
 -- The loops of the header's reader: what the rest of the input gives from here on is what it gave at the start.
 use mathlib.Core.Path.{_≡_, refl, sym, ap, _∙_}
 use mathlib.Core.Bool.{Bool, true, false, not, _&&_}
-use mathlib.Core.List.{List, [], _∷_}
+use mathlib.Core.List.{List, _∷_}
 use Prim.Native.Nat.{ℕ, _+_, _-_, _*_, _≤_, _<_, min}
 use native.Mathlib.Nat.{add-zero}
 use native.Mathlib.Omega.{arith}
@@ -11,7 +11,7 @@ use borrow.Author.Tests.{eq-eqb, ne-eqb, not-true, not-false}
 use Rattle.rules.specs.Decimals.{isDigit}
 use Rattle.rules.specs.P4.{isEnd, isWhite, stands, mix, digitsAt}
 use Rattle.p4_laws.specs.Stores.{drop-here}
-use Rattle.p4_laws.specs.Scans.{mix-in, mix-white, mix-hash, mix-stop, digit-more, digit-stop, digit-range, Alike, alike, alike-trans, alike-is}
+use Rattle.p4_laws.specs.Scans.{mix-in, mix-white, mix-hash, mix-stop, digit-more, digit-stop, Alike, alike, alike-trans, alike-is}
 use Rattle.p4_header.specs.Reads.{Stands, Mix, Digits}
 
 -- ---- a word

@@ -1,9 +1,9 @@
 -- What the header's functions answer, in the words of the definitions.
 use mathlib.Core.Path.{_≡_}
 use mathlib.Core.Bool.{Bool, false}
-use mathlib.Core.List.{List, [], _∷_}
-use Prim.Native.Nat.{ℕ, _+_, _≤_, min}
-use lib.ListN.{length, drop}
+use mathlib.Core.List.{List}
+use Prim.Native.Nat.{ℕ, min}
+use lib.ListN.{drop}
 use Rattle.rules.specs.P4.{Judged, good, wrong, _>>=_, stands, white, mix, digitsAt, Field, fieldAt, Header, headerAt}
 use Rattle.p4_header.specs.declared.PlaceRead.{PlaceRead}
 use Rattle.p4_header.specs.declared.PlaceRead.the-variants.{At, NotAt}

@@ -46,15 +46,6 @@ fn is_white(b: u8) -> bool
     is_end(b)
 }
 
-fn is_digit(b: u8) -> bool
-    ensures { λ r. ⌜ r ≡ isDigit b ⌝ }
-{
-    if b < 48 {
-        return false;
-    }
-    b <= 57
-}
-
 // Whether the word stands at a place.
 fn stands(word: &[u8], src: &[u8], at: usize) -> bool
     requires { ⌜ at ≤ length (now src) ⌝ }
@@ -134,7 +125,7 @@ fn read_digits(src: &[u8], at: usize) -> Number
     let mut v: usize = 0;
     while i < src.len() {
         let b = src[i];
-        if !is_digit(b) {
+        if !text::is_digit(b) {
             return Number { value: v, next: i };
         }
         v = add_digit(v, b);
@@ -160,11 +151,12 @@ pub fn read_field(src: &[u8], at: usize, most: usize, number: u32) -> FieldRead
     match e {
         PlaceRead::NotAt(no, p) => FieldRead::NoValue(no, p),
         PlaceRead::At(next) => {
+            let refused = FieldRead::NoValue(number, first);
             if v < 1 {
-                return FieldRead::NoValue(number, first);
+                return refused;
             }
             if most < v {
-                return FieldRead::NoValue(number, first);
+                return refused;
             }
             FieldRead::Value(v, next)
         }

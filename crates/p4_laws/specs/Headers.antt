@@ -1,14 +1,14 @@
 -- What a header that is read holds: sizes in range, and a place of rows inside the input.
 use mathlib.Core.Path.{_≡_, refl, sym, ap, subst, _∙_}
 use mathlib.Core.Bool.{Bool, true, false, _&&_}
-use mathlib.Core.List.{List, [], _∷_}
+use mathlib.Core.List.{List}
 use Prim.Native.Nat.{ℕ, _+_, _≤_, _<_}
 use native.Mathlib.Omega.{arith}
 use lib.ListN.{length, getD, drop, List·getD-eq-default}
 use lib.Dec.{leb, ltb, eqb}
-use borrow.Author.Tests.{leb-true, leb-false, eqb-true}
+use borrow.Author.Tests.{leb-true, leb-false}
 use Rattle.rules.specs.Solids.{sliceBytes}
-use Rattle.rules.specs.P4.{Judged, good, wrong, _>>=_, judge, isEnd, isWhite, white, mix, digitsAt, Field, fieldAt, Header, headerAt, stands, magic, imageAt}
+use Rattle.rules.specs.P4.{good, isEnd, isWhite, white, mix, digitsAt, Field, fieldAt, Header, headerAt, stands, magic, imageAt}
 use Rattle.p4_laws.specs.Judging.{made, passed, first-of, second-of}
 
 -- a byte that is white space is there

@@ -2,19 +2,18 @@
 use mathlib.Core.Path.{_≡_, refl, sym, ap, subst, _∙_}
 use mathlib.Core.Bool.{Bool, true, false}
 use mathlib.Core.List.{List, [], _∷_, _++_}
-use Prim.Native.Nat.{ℕ, zero, suc, _+_, _*_, _≤_, _<_}
+use Prim.Native.Nat.{ℕ, zero, suc, _+_, _*_, _≤_}
 use native.Mathlib.Nat.{zero-mul, suc-mul}
 use native.Mathlib.Omega.{arith}
 use lib.ListN.{length, drop, length-append, length-drop}
 use lib.Seq.{drop-at}
 use lib.Dec.{eqb}
 use borrow.Author.Tests.{eq-eqb, ne-eqb, eqb-true, eqb-false}
-use Rattle.rules.specs.declared.Stack.{Stack}
 use Rattle.rules.specs.Solids.{rowBytes, sliceBytes}
-use Rattle.rules.specs.P4.{Judged, good, wrong, _>>=_, _>>_, judge, rows, imageAt, imagesAt, Header, headerAt, stands, magic, sizes, Contents, contents}
+use Rattle.rules.specs.P4.{Judged, good, wrong, _>>=_, _>>_, judge, rows, imageAt, imagesAt, Header, headerAt, stands, sizes, Contents, contents}
 use Rattle.p4_laws.specs.Judging.{made, passed, pass, fail}
 use Rattle.p4_laws.specs.Rows.{length-rows, rows-twice, rows-more}
-use Rattle.p4_laws.specs.Headers.{HeaderIn, header-in, image-in}
+use Rattle.p4_laws.specs.Headers.{header-in, image-in}
 
 -- an image and those behind it
 abbrev pub followed : ℕ → ℕ → ℕ → List ℕ → ℕ → Judged (ℕ × List ℕ)

@@ -1,20 +1,18 @@
 -- Rows with padding bits zero, whatever stands behind them, have the looks of the bytes: so every pick is the same pick.
-use mathlib.Core.Path.{_≡_, refl, sym, ap, subst, _∙_}
+use mathlib.Core.Path.{_≡_, refl, sym, ap, _∙_}
 use mathlib.Core.Bool.{Bool, true, false, _&&_}
-use mathlib.Core.List.{List, [], _∷_, _++_}
-use Prim.Native.Nat.{ℕ, suc, _+_, _-_, _*_, _/_, _%_, _^_, _≤_, _<_}
+use mathlib.Core.List.{List, _++_}
+use Prim.Native.Nat.{ℕ, suc, _+_, _*_, _%_, _≤_, _<_}
 use native.Mathlib.Nat.{suc-mul, mul-le-mul-right, mul-assoc}
 use native.Mathlib.Omega.{arith}
 use lib.Dec.{leb, eqb}
 use lib.IntN.{ℤ, pos, negsuc, natAbs}
-use lib.ListN.{length, getD, length-append}
-use lib.Signed.{leZ, ltZ}
+use lib.ListN.{length}
 use borrow.Author.Tests.{le-leb, leb-true, ltb-true}
 use Rattle.rules.specs.declared.Vector.{Vector}
 use Rattle.rules.specs.declared.Stack.{Stack}
-use Rattle.rules.specs.declared.Look.{Look}
 use Rattle.rules.specs.declared.Solid.the-variants.{Stack as IsStack}
-use Rattle.rules.specs.Solids.{between, permittedSize, rowBytes, sliceBytes, stackBytes, permittedStack, permitted, voxel, filledStack, box, inSide, inBox, filled, seenAs, look}
+use Rattle.rules.specs.Solids.{between, permittedSize, rowBytes, sliceBytes, stackBytes, permittedStack, voxel, filledStack, box, inSide, inBox, seenAs, look}
 use Rattle.rules.specs.Pick.{pick, answer, pickOf}
 use Rattle.rules.specs.P4.{rows, sizes}
 use Rattle.p4_laws.specs.Judging.{both, first-of, second-of}

@@ -1,12 +1,12 @@
 -- The plain form: how long it is, and its slices one at a time.
 use mathlib.Core.Path.{_≡_, refl, sym, ap, _∙_}
-use mathlib.Core.List.{List, [], _∷_, _++_}
+use mathlib.Core.List.{List, [], _++_}
 use Prim.Native.Nat.{ℕ, zero, suc, _+_, _-_, _*_, _≤_, _<_}
 use native.Mathlib.Nat.{zero-mul, suc-mul}
 use native.Mathlib.Omega.{arith}
 use lib.ListN.{length, drop, length-append, length-drop}
 use lib.Seq.{drop-append-le}
-use Rattle.rules.specs.Solids.{rowBytes, sliceBytes}
+use Rattle.rules.specs.Solids.{sliceBytes}
 use Rattle.rules.specs.Decimals.{decimal}
 use Rattle.rules.specs.P4.{rows, plainHeader, slices}
 use Rattle.p4_laws.specs.Rows.{length-rows, rows-front}

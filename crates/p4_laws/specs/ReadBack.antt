@@ -1,22 +1,22 @@
 -- What is written in the plain form reads back: digits, a field, a header, the images, the stack.
-use mathlib.Core.Path.{_≡_, refl, sym, ap, subst, _∙_}
-use mathlib.Core.Bool.{Bool, true, false, _&&_, _||_}
+use mathlib.Core.Path.{_≡_, refl, sym, ap, _∙_}
+use mathlib.Core.Bool.{Bool, true, false}
 use mathlib.Core.List.{List, [], _∷_, _++_, append-assoc}
 use Prim.Native.Nat.{ℕ, zero, suc, _+_, _-_, _*_, _/_, _%_, _≤_, _<_}
-use native.Mathlib.Nat.{add-zero, zero-add, zero-mul, suc-mul}
+use native.Mathlib.Nat.{add-zero, zero-mul, suc-mul}
 use native.Mathlib.Omega.{arith}
-use lib.Dec.{eqb, leb, ltb}
+use lib.Dec.{ltb}
 use lib.ListN.{length, getD, drop, length-append, length-drop}
-use lib.Seq.{drop-drop, drop-append-seam, drop-at, getD-drop, getD-append-seam}
+use lib.Seq.{drop-drop, drop-append-seam, getD-drop}
 use borrow.Author.Tests.{eq-eqb, ne-eqb, le-leb, lt-ltb, ltb-true, ltb-false}
-use Rattle.rules.specs.Solids.{rowBytes, sliceBytes}
+use Rattle.rules.specs.Solids.{sliceBytes}
 use Rattle.rules.specs.Decimals.{isDigit, figure, decimal}
-use Rattle.rules.specs.P4.{Judged, good, wrong, _>>=_, stands, magic, isEnd, isWhite, white, mix, digitsAt, Field, fieldAt, Header, headerAt, row, rows, imageAt, imagesAt, sizes, Contents, contents, plainHeader, slices}
+use Rattle.rules.specs.P4.{good, stands, magic, isEnd, isWhite, white, mix, digitsAt, fieldAt, headerAt, rows, imageAt, imagesAt, sizes, contents, plainHeader, slices}
 use Rattle.text.specs.Decimals.{decimal-one, decimal-more}
 use Rattle.p4_laws.specs.Judging.{on, pass, both}
 use Rattle.p4_laws.specs.Scans.{mix-stop, digit-more, digit-stop}
 use Rattle.p4_laws.specs.Rows.{rows-twice, rows-more}
-use Rattle.p4_laws.specs.Images.{followed, images-end, images-more}
+use Rattle.p4_laws.specs.Images.{images-end, images-more}
 use Rattle.p4_laws.specs.Plain.{header-length, slices-more, slice-rows}
 
 -- ---- digits

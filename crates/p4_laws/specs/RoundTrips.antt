@@ -3,13 +3,11 @@ use mathlib.Core.Path.{_≡_, sym, ap, subst, _∙_}
 use mathlib.Core.Bool.{true}
 use mathlib.Core.List.{List, _++_}
 use Prim.Native.Nat.{ℕ, _≤_}
-use native.Mathlib.Omega.{arith}
 use lib.IntN.{ℤ}
 use lib.ListN.{length, take, drop}
 use lib.Seq.{take-at, drop-at}
 use Rattle.rules.specs.declared.Vector.{Vector}
 use Rattle.rules.specs.declared.Stack.{Stack}
-use Rattle.rules.specs.declared.Look.{Look}
 use Rattle.rules.specs.declared.Solid.the-variants.{Stack as IsStack}
 use Rattle.rules.specs.declared.Reading.{Reading}
 use Rattle.rules.specs.declared.Reading.the-variants.{Read}
@@ -17,8 +15,9 @@ use Rattle.rules.specs.declared.Writing.{Writing}
 use Rattle.rules.specs.declared.Writing.the-variants.{Written}
 use Rattle.rules.specs.Solids.{stackBytes, permittedStack, look}
 use Rattle.rules.specs.Pick.{pickOf}
-use Rattle.rules.specs.P4.{good, Contents, contents, plain, ReadPromise, WritePromise}
-use Rattle.p4_laws.specs.Trips.{stackRows, plain-reads, rows-bytes, rows-look, rows-pick, read-bytes, read-permitted, read-plain, read-again, Accepted, read-accepted, read-accepts, Wrote, write-accepted, write-accepts}
+use Rattle.rules.specs.P4.{good, wrong, Contents, contents, plain, ReadPromise, WritePromise}
+use Rattle.p4_laws.specs.Places.{refused-inside}
+use Rattle.p4_laws.specs.Trips.{stackRows, plain-reads, rows-bytes, rows-look, rows-pick, read-bytes, read-permitted, read-plain, read-again, read-accepted, read-accepts, write-accepted, write-accepts}
 
 -- ---- two answers that a promise allows are equal, and so are the buffers
 pub read-settled : {s before a b : List ℕ} {q r : Reading} → ReadPromise s before a q → ReadPromise s before b r → (q ≡ r) × (a ≡ b)
@@ -26,6 +25,10 @@ read-settled p q = (p .answers ∙ sym (q .answers), p .leaves ∙ sym (q .leave
 
 pub write-settled : {k : Stack} {bytes before a b : List ℕ} {q r : Writing} → WritePromise k bytes before a q → WritePromise k bytes before b r → (q ≡ r) × (a ≡ b)
 write-settled p q = (p .answers ∙ sym (q .answers), p .leaves ∙ sym (q .leaves))
+
+-- ---- a refusal 21 to 26 gives a place of the input, or its length
+pub refusal-inside : (s : List ℕ) {number place : ℕ} → contents s ≡ wrong number place → place ≤ length s
+refusal-inside = refused-inside
 
 -- ---- what is written reads back: `stackRows` are a stack's rows with padding bits zero
 pub written-reads : (k : Stack) (bytes : List ℕ) → permittedStack k bytes ≡ true → contents (plain k bytes) ≡ good (record { stack = k; bytes = stackRows k bytes })

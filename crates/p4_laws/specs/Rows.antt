@@ -1,11 +1,11 @@
 -- Rows with padding bits zero: their length, rows after rows, rows of rows, and that no bit in use changes.
-use mathlib.Core.Path.{_≡_, refl, sym, ap, subst, _∙_}
+use mathlib.Core.Path.{_≡_, refl, sym, ap, _∙_}
 use mathlib.Core.Bool.{Bool, true, false}
 use mathlib.Core.List.{List, [], _∷_, _++_, append-assoc}
 use Prim.Native.Nat.{ℕ, zero, suc, _+_, _-_, _*_, _/_, _%_, _^_, _≤_, _<_}
-use native.Mathlib.Nat.{zero-add, suc-mul, zero-mul, mul-div-cancel, div-div-eq-div-mul, add-assoc}
+use native.Mathlib.Nat.{zero-add, suc-mul, zero-mul, mul-div-cancel, div-div-eq-div-mul}
 use native.Mathlib.Omega.{arith}
-use lib.ListN.{length, getD, take, drop, length-append, length-take, length-drop, List·getD-append}
+use lib.ListN.{length, getD, take, drop, length-append, length-drop, List·getD-append}
 use lib.Seq.{take-at, drop-at, getD-at, getD-take, getD-drop, getD-append-add, drop-drop, length-take-le, take-append-le, drop-append-le}
 use lib.Pow.{pow-pos, pow-add}
 use lib.Dec.{leb}

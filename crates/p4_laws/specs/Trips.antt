@@ -1,31 +1,29 @@
 -- Both round trips over the definitions, and what an answer of the reader or the writer tells.
 use mathlib.Core.Path.{_≡_, refl, sym, ap, subst, _∙_}
-use mathlib.Core.Bool.{Bool, true, false, _&&_}
-use mathlib.Core.List.{List, [], _∷_, _++_}
-use Prim.Native.Nat.{ℕ, zero, suc, _+_, _-_, _*_, _≤_, _<_}
-use native.Mathlib.Nat.{suc-mul, mul-assoc}
+use mathlib.Core.Bool.{true}
+use mathlib.Core.List.{List, [], _++_}
+use Prim.Native.Nat.{ℕ, _*_, _≤_}
 use native.Mathlib.Omega.{arith}
 use lib.Dec.{leb}
-use lib.IntN.{ℤ, pos, natAbs}
-use lib.ListN.{length, take, drop, length-append, length-drop}
-use lib.Seq.{take-at, drop-at, drop-append-le, take-append-le}
-use borrow.Author.Tests.{le-leb, leb-true, leb-false}
+use lib.IntN.{ℤ, natAbs}
+use lib.ListN.{length, take, drop, length-append}
+use lib.Seq.{take-at}
+use borrow.Author.Tests.{le-leb}
 use Rattle.rules.specs.declared.Vector.{Vector}
 use Rattle.rules.specs.declared.Stack.{Stack}
-use Rattle.rules.specs.declared.Look.{Look}
 use Rattle.rules.specs.declared.Solid.the-variants.{Stack as IsStack}
 use Rattle.rules.specs.declared.Reading.{Reading}
-use Rattle.rules.specs.declared.Reading.the-variants.{Read, Unread}
+use Rattle.rules.specs.declared.Reading.the-variants.{Read}
 use Rattle.rules.specs.declared.Writing.{Writing}
-use Rattle.rules.specs.declared.Writing.the-variants.{Written, Unwritten}
-use Rattle.rules.specs.Solids.{rowBytes, sliceBytes, stackBytes, permittedStack, look}
+use Rattle.rules.specs.declared.Writing.the-variants.{Written}
+use Rattle.rules.specs.Solids.{stackBytes, permittedStack, look}
 use Rattle.rules.specs.Pick.{pickOf}
-use Rattle.rules.specs.P4.{Judged, good, wrong, _>>=_, judge, rows, Contents, contents, reading, readAnswer, stored, sizes, slices, plain, writing, writeAnswer, ReadPromise, WritePromise}
+use Rattle.rules.specs.P4.{Judged, good, wrong, rows, Contents, contents, reading, readAnswer, stored, sizes, plain, writing, writeAnswer, ReadPromise, WritePromise}
 use Rattle.p4_laws.specs.Judging.{on, pass, made, passed}
 use Rattle.p4_laws.specs.Plain.{slices-front}
 use Rattle.p4_laws.specs.Images.{Sound, sound}
 use Rattle.p4_laws.specs.ReadBack.{stack-reads}
-use Rattle.p4_laws.specs.Looks.{Sized, sized, permits, permitted-too, look-same, rows-long, pick-same}
+use Rattle.p4_laws.specs.Looks.{sized, permits, permitted-too, look-same, rows-long, pick-same}
 
 -- ---- written and read back
 
@@ -141,6 +139,7 @@ read-accepts {s} {before} {c = c} e l R =
 pub record Wrote (k : Stack) (bytes before after : List ℕ) (n : ℕ) : Type 0 where
   pub permitted : permittedStack k bytes ≡ true
   pub front : take n after ≡ plain k bytes
+  pub inside : n ≤ length after
 
 pub write-accepted : {k : Stack} {bytes before after : List ℕ} {n : ℕ} → WritePromise k bytes before after (Written n) → Wrote k bytes before after n
 unfolding writeAnswer stored writing
@@ -155,7 +154,8 @@ write-accepted {k} {bytes} {before} {after} {n} W = by (writing k bytes (length 
         let b = passed 27 (length (plain k bytes)) (λ _. good (plain k bytes)) (leb (length (plain k bytes)) (length before)) (a .1) in
         let l-is : l ≡ plain k bytes = let x = b .1 in cc in
         let v = W .leaves ∙ ap (λ (x : Judged (List ℕ)). stored (λ f. f) x before) q in
-        record { permitted = a .0; front = ap (take n) v ∙ take-at l (drop (length l) before) n (sym n-is) ∙ l-is }
+        let m = ap length v ∙ length-append l (drop (length l) before) in
+        record { permitted = a .0; front = ap (take n) v ∙ take-at l (drop (length l) before) n (sym n-is) ∙ l-is; inside = omega arith }
 
 pub write-accepts : {k : Stack} {bytes before after : List ℕ} {r : Writing} → permittedStack k bytes ≡ true → length (plain k bytes) ≤ length before → WritePromise k bytes before after r
     → r ≡ Written (length (plain k bytes))

@@ -1,14 +1,13 @@
 -- Each way out of the search for an image's rows: the definition goes the same way.
-use mathlib.Core.Path.{_≡_, sym, ap, subst, _∙_}
+use mathlib.Core.Path.{_≡_, sym, ap, _∙_}
 use mathlib.Core.Bool.{_&&_}
 use mathlib.Core.List.{List}
 use Prim.Native.Nat.{ℕ, _+_, _≤_, _<_}
-use native.Mathlib.Omega.{arith}
 use lib.ListN.{length}
 use lib.Dec.{eqb, leb}
 use borrow.Author.Tests.{eq-eqb, ne-eqb, le-leb, lt-leb}
 use Rattle.rules.specs.Solids.{sliceBytes}
-use Rattle.rules.specs.P4.{Judged, good, wrong, _>>=_, _>>_, judge, Header, headerAt, imageAt}
+use Rattle.rules.specs.P4.{good, _>>=_, _>>_, judge, imageAt}
 use Rattle.p4_laws.specs.Judging.{on, off, pass, fail, both, not-first, not-second}
 use Rattle.p4_laws.specs.Headers.{header-in}
 use Rattle.p4_rows.specs.Copies.{SliceBytes}

@@ -1,8 +1,8 @@
 -- Each way out of the reader of images, from the last image back to the first, and of the reader.
 use mathlib.Core.Path.{_≡_, refl, sym, ap, subst, _∙_}
-use mathlib.Core.List.{List, [], _∷_, _++_}
+use mathlib.Core.List.{List, _++_}
 use Prim.Native.Nat.{ℕ, suc, _+_, _-_, _*_, _≤_, _<_}
-use native.Mathlib.Nat.{zero-mul, zero-add, add-zero, suc-mul}
+use native.Mathlib.Nat.{zero-mul, zero-add, add-zero, suc-mul, mul-le-mul-right}
 use native.Mathlib.Omega.{arith}
 use lib.ListN.{length, drop}
 use lib.Seq.{sets, sets-eq}
@@ -11,7 +11,7 @@ use borrow.Author.Tests.{le-leb, lt-leb}
 use Rattle.rules.specs.declared.Stack.{Stack}
 use Rattle.rules.specs.declared.Reading.{Reading}
 use Rattle.rules.specs.declared.Reading.the-variants.{Read, Unread}
-use Rattle.rules.specs.Solids.{sliceBytes, stackBytes}
+use Rattle.rules.specs.Solids.{rowBytes, sliceBytes, stackBytes}
 use Rattle.rules.specs.P4.{Judged, good, wrong, _>>=_, judge, rows, imageAt, imagesAt, Contents, contents, reading, readAnswer, stored, sizes, ReadPromise}
 use Rattle.p4_laws.specs.Judging.{on, off, pass, fail}
 use Rattle.text.specs.Puts.{sets-append}
@@ -120,9 +120,16 @@ module _ {s : List ℕ} {w h z at o : ℕ} (A : Asked s at w h) (B : Before o z 
             let u : (z + 1 + d) * sliceBytes w h ≡ (z + 1) * sliceBytes w h + d * sliceBytes w h = omega arith in
             omega arith
 
-        pub copy-room : {k : Stack} {out mid : List ℕ} {r : Reading} → Part s w h (z + 1) (i + c) (o + c) out mid r → r ≡ Read k → length mid ≡ length out
-            → Room s i mid o (sliceBytes w h)
-        copy-room P q l = let x = roomy P q in let y = C .is in let u = rows-in in record { source = omega arith; target = omega arith }
+        -- for these rows, or fewer
+        pub copy-room : {k : Stack} {out mid : List ℕ} {r : Reading} (g : ℕ) → Part s w h (z + 1) (i + c) (o + c) out mid r → r ≡ Read k → length mid ≡ length out
+            → g ≤ h → Room s i mid o (sliceBytes w g)
+        unfolding sliceBytes
+        copy-room g P q l f =
+            let x = roomy P q in
+            let y = C .is in
+            let u = rows-in in
+            let v = mul-le-mul-right (rowBytes w) f in
+            record { source = omega arith; target = omega arith }
 
 pub sides : {s : List ℕ} {at w h : ℕ} → Asked s at w h → Sides w h
 sides A = record { some = A .wide .0; wide = A .wide .1; high = A .high }

@@ -7,7 +7,7 @@ use lib.Seq.{sets}
 use Rattle.rules.specs.declared.Reading.{Reading}
 use Rattle.rules.specs.declared.Reading.the-variants.{Read, Unread}
 use Rattle.rules.specs.Solids.{sliceBytes}
-use Rattle.rules.specs.P4.{Judged, good, wrong, sizes, imageAt, imagesAt}
+use Rattle.rules.specs.P4.{good, wrong, sizes, imageAt, imagesAt}
 use Rattle.p4_header.specs.declared.PlaceRead.{PlaceRead}
 use Rattle.p4_header.specs.Reads.{place}
 

@@ -1,5 +1,4 @@
 -- The plain header, put part by part: after each part there is room for the next, and all parts in a row are the header.
-use mathlib.Core.Path.{_≡_, refl}
 use mathlib.Core.List.{List, [], _∷_, _++_}
 use Prim.Native.Nat.{ℕ}
 use Rattle.rules.specs.Decimals.{decimal}
@@ -41,8 +40,9 @@ module _ {out : List ℕ} {at w h : ℕ} (R : HeaderRoom out at w h) where
         room-height = room-first (decimal h) (10 ∷ []) rest
 
         module _ {o₄ : List ℕ} {d : ℕ} (D : Put o₃ c (decimal h) o₄ d) where
-          pub room-end : Room o₄ d (10 ∷ [])
-          room-end = room-then (10 ∷ []) rest D
+          -- for a byte, whatever it is
+          pub room-end : (x : ℕ) → Room o₄ d (x ∷ [])
+          room-end x = record { fits = room-then (10 ∷ []) rest D .fits }
 
           pub header-put : {o₅ : List ℕ} {e : ℕ} → Put o₄ d (10 ∷ []) o₅ e → Put out at (plainHeader w h) o₅ e
           unfolding plainHeader

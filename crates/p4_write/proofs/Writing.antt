@@ -1,9 +1,9 @@
 -- The loop over slices, in which what is left to write, laid over what is written, gives the whole; and each way out of the writer.
 use mathlib.Core.Path.{_≡_, refl, sym, ap, subst, _∙_}
 use mathlib.Core.Bool.{Bool, true, false, _&&_}
-use mathlib.Core.List.{List, [], _∷_, _++_, append-assoc}
+use mathlib.Core.List.{List, _++_, append-assoc}
 use Prim.Native.Nat.{ℕ, suc, _+_, _-_, _*_, _≤_, _<_}
-use native.Mathlib.Nat.{zero-add, suc-mul, mul-le-mul}
+use native.Mathlib.Nat.{zero-add, suc-mul, mul-le-mul, mul-le-mul-right}
 use native.Mathlib.Omega.{arith}
 use lib.Dec.{leb}
 use lib.IntN.{ℤ, pos}
@@ -15,7 +15,7 @@ use Rattle.rules.specs.declared.Writing.{Writing}
 use Rattle.rules.specs.declared.Writing.the-variants.{Written, Unwritten}
 use Rattle.rules.specs.Solids.{between, permittedSize, rowBytes, sliceBytes, stackBytes, permittedStack}
 use Rattle.rules.specs.P4.{Judged, good, wrong, _>>=_, judge, rows, plainHeader, slices, plain, sizes, writing, writeAnswer, stored, WritePromise}
-use Rattle.text.specs.Put.{Room, Put}
+use Rattle.text.specs.Put.{Put}
 use Rattle.text.specs.Puts.{sets-append, put-then}
 use Rattle.p4_laws.specs.Judging.{pass, fail, both, not-first, not-second}
 use Rattle.p4_laws.specs.Plain.{header-length, slices-none, slices-more, slices-length, slice-rows}
@@ -74,8 +74,17 @@ module _ {src first out : List ℕ} {w h d at from left : ℕ} (S : SlicesRoom w
   header-room = let f = fills in let m = G .same in let t = S .target in record { wide = S .three .wide .1; high = S .three .high .1; room = record { fits = omega arith } }
 
   module _ {mid : List ℕ} {o : ℕ} (P : Put out at (plainHeader w h) mid o) where
-    pub copy-room : length mid ≡ length out → CopyRoom src from mid o (sliceBytes w h)
-    copy-room l = let f = fills in let m = G .same in let t = S .target in let p = P .past in record { source = rows-there; target = omega arith }
+    -- for these rows, or fewer
+    pub copy-room : (g : ℕ) → length mid ≡ length out → g ≤ h → CopyRoom src from mid o (sliceBytes w g)
+    unfolding sliceBytes
+    copy-room g l m =
+        let f = fills in
+        let s = G .same in
+        let t = S .target in
+        let p = P .past in
+        let r = rows-there in
+        let v = mul-le-mul-right (rowBytes w) m in
+        record { source = omega arith; target = omega arith }
 
     module _ {size : ℕ} (Z : SliceBytes w h size) where
       pub next-from : from + size ≤ length src

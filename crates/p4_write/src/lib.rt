@@ -1,7 +1,6 @@
 // The writer of P4 stacks: the plain form.
 use rules::Stack;
 use rules::Writing;
-ghost use mathlib.Core.Path.{_≡_};
 ghost use Prim.Native.Nat.{_≤_};
 ghost use Rattle.rules.specs.P4.{sizes, plainHeader, slices, WritePromise};
 ghost use Rattle.text.specs.Put.{Put};

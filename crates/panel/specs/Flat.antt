@@ -1,16 +1,11 @@
 -- The panel's C interface: each answer of the core as plain numbers. These are definitions: nothing here is proved.
-use mathlib.Core.Path.{_≡_}
-use mathlib.Core.List.{List, []}
-use Prim.Native.Nat.{ℕ}
-use lib.IntN.{ℤ, pos, natAbs}
+use lib.IntN.{pos, natAbs}
 use lib.Ieee.{Float, fin}
 use mathlib.Core.Bool.{false}
-use Rattle.rules.specs.declared.Vector.{Vector}
 use Rattle.rules.specs.declared.Pick.{Pick}
 use Rattle.rules.specs.declared.Pick.the-variants.{Accepted, Refused}
 use Rattle.rules.specs.declared.Display.{Display}
 use Rattle.rules.specs.declared.Display.the-variants.{Lit, Unlit}
-use Rattle.rules.specs.declared.Stack.{Stack}
 use Rattle.rules.specs.declared.Reading.{Reading}
 use Rattle.rules.specs.declared.Reading.the-variants.{Read, Unread}
 use Rattle.rules.specs.declared.Writing.{Writing}

@@ -22,11 +22,11 @@ use Rattle.solid.proofs.Radix.{radix}
 use Rattle.solid.proofs.Naturals.{along-below}
 use Rattle.rules.specs.Pick.{pick, answer, pickOf, WedgePromise, StackPromise}
 
-pub wedge-answers-equal : {w : Wedge} {p : Vector} {frame reach : ℤ} {r t : Pick} → WedgePromise w p frame reach r → WedgePromise w p frame reach t → r ≡ t
-wedge-answers-equal h k = h .is ∙ sym (k .is)
+pub wedge-settled : {w : Wedge} {p : Vector} {frame reach : ℤ} {r t : Pick} → WedgePromise w p frame reach r → WedgePromise w p frame reach t → r ≡ t
+wedge-settled h k = h .is ∙ sym (k .is)
 
-pub stack-answers-equal : {k : Stack} {bytes : List ℕ} {p : Vector} {frame reach : ℤ} {r t : Pick} → StackPromise k bytes p frame reach r → StackPromise k bytes p frame reach t → r ≡ t
-stack-answers-equal h k = h .is ∙ sym (k .is)
+pub stack-settled : {k : Stack} {bytes : List ℕ} {p : Vector} {frame reach : ℤ} {r t : Pick} → StackPromise k bytes p frame reach r → StackPromise k bytes p frame reach t → r ≡ t
+stack-settled h k = h .is ∙ sym (k .is)
 
 -- ---- lent bytes that agree on the voxels of the box
 pub record Alike (k : Stack) (a b : List ℕ) : Type 0 where

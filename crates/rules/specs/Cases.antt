@@ -22,7 +22,7 @@ use Rattle.rules.specs.Walk.{ensure, sign, signs, seen, asked, powersFro
 use Rattle.rules.specs.Pick.{isInside, pick, answer, pickOf}
 use Rattle.rules.specs.Decimals.{isDigit, areDigits, value, figure, digits}
 use Rattle.rules.specs.Display.{largest, sizeOf, component, permittedNormal, light, display}
-use Rattle.rules.specs.Session.{parts, fewDigits, within32, positive, negative, number, next, onlyThese, question, three, counts, told, reply, replies, session}
+use Rattle.rules.specs.Session.{parts, fewDigits, within32, signed, number, next, onlyThese, question, three, counts, toldAccepted, toldRefused, told, reply, replies, session}
 
 -- a session; a line of it, for the triangle vectors that its pick ends with; whole numbers to display
 data Case : Type 0 where
@@ -111,5 +111,5 @@ worked-cases :
     ∷ says "B\nB\nB\n"
     ∷ says "B\nB\n"
     ∷ []
-unfolding run bytes cornersOf vectorsOf says ends over _⊕_ _⊖_ minus scale dot cross det sphere lay size between permittedWedge filledWedge inBox look after _>>=_ ensure sign signs seen asked powersFrom powers normal determinant inside anyInside firstFree choice keep lookAt falls axes falling round walk found start rounds isInside pick answer pickOf isDigit areDigits value figure digits parts fewDigits within32 positive negative number next onlyThese question three counts told reply replies session largest sizeOf component permittedNormal light display
+unfolding run bytes cornersOf vectorsOf says ends over _⊕_ _⊖_ minus scale dot cross det sphere lay size between permittedWedge filledWedge inBox look after _>>=_ ensure sign signs seen asked powersFrom powers normal determinant inside anyInside firstFree choice keep lookAt falls axes falling round walk found start rounds isInside pick answer pickOf isDigit areDigits value figure digits parts fewDigits within32 signed number next onlyThese question three counts toldAccepted toldRefused told reply replies session largest sizeOf component permittedNormal light display
 worked-cases = refl

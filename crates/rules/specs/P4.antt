@@ -34,7 +34,7 @@ judge true number place = good tt
 judge false number place = wrong number place
 
 -- ---- A header. A place is an offset in the whole input s; behind its end `getD` gives 0, which no header has,
--- so the place of a byte that is missing is the input's length
+-- so the place of a byte that is missing is the input's length (theorem `refusal-inside`)
 
 -- the word stands at the front of some bytes
 unfoldable pub stands : List ℕ → List ℕ → Bool

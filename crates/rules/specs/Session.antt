@@ -9,11 +9,12 @@ use lib.IntN.{ℤ, pos, negsuc, negℤ}
 use lib.ListN.{length, getD, take, drop}
 use Rattle.rules.specs.declared.Vector.{Vector}
 use Rattle.rules.specs.declared.Solid.the-variants.{Wedge as IsWedge}
+use Rattle.rules.specs.declared.Accepted.{Accepted}
+use Rattle.rules.specs.declared.Refused.{Refused}
 use Rattle.rules.specs.declared.Pick.{Pick}
-use Rattle.rules.specs.declared.Pick.the-variants.{Accepted, Refused}
+use Rattle.rules.specs.declared.Pick.the-variants.{Accepted as IsAccepted, Refused as IsRefused}
 use Rattle.rules.specs.declared.Number.{Number}
 use Rattle.rules.specs.declared.Number.the-variants.{Whole, NoNumber}
-use Rattle.rules.specs.declared.Question.{Question}
 use Rattle.rules.specs.declared.Line.{Line}
 use Rattle.rules.specs.declared.Line.the-variants.{Asks, OtherForm}
 use Rattle.rules.specs.Vectors.{vector}
@@ -57,14 +58,14 @@ unfoldable pub within32 : ℤ → Number
 within32 z = elim (between (negsuc 2147483647) z (pos 2147483647)) [ true ↦ Whole z | false ↦ NoNumber ]
 
 -- a number is an optional minus and 1 to 10 digits
-unfoldable pub positive : List ℕ → Number
-positive part = elim (fewDigits part) [ true ↦ within32 (pos (value 0 part)) | false ↦ NoNumber ]
+unfoldable pub signed : (ℕ → ℤ) → List ℕ → Number
+signed sign part = elim (fewDigits part) [ true ↦ within32 (sign (value 0 part)) | false ↦ NoNumber ]
 
-unfoldable pub negative : List ℕ → Number
-negative part = elim (fewDigits part) [ true ↦ within32 (negℤ (pos (value 0 part))) | false ↦ NoNumber ]
+abbrev pub minus : ℕ → ℤ
+minus n = negℤ (pos n)
 
 unfoldable pub number : List ℕ → Number
-number part = elim (eqb (getD part 0 0) 45) [ true ↦ negative (drop 1 part) | false ↦ positive part ]
+number part = elim (eqb (getD part 0 0) 45) [ true ↦ signed minus (drop 1 part) | false ↦ signed pos part ]
 
 -- the first of these fields is a number: go on with it and the others
 abbrev pub ifWhole : Number → (ℤ → Line) → Line
@@ -83,9 +84,9 @@ onlyThese (part ∷ others) line = OtherForm
 -- a b c h, p, frame, R
 unfoldable pub question : List ℕ → Line
 question line =
-    next (fields line) λ a s1. next s1 λ b s2. next s2 λ c s3. next s3 λ h s4.
-    next s4 λ x s5. next s5 λ y s6. next s6 λ z s7. next s7 λ frame s8. next s8 λ reach s9.
-    onlyThese s9
+    next (fields line) λ a others. next others λ b others. next others λ c others. next others λ h others.
+    next others λ x others. next others λ y others. next others λ z others. next others λ frame others. next others λ reach others.
+    onlyThese others
     (Asks record { wedge = record { a = a; b = b; c = c; h = h }; p = vector x y z; frame = frame; reach = reach })
 
 -- ---- It prints one line for each: "N", normal, steps, looks; or "R", number, place, steps, looks; or "B"
@@ -99,9 +100,15 @@ three v = word (v .x) ++ (word (v .y) ++ word (v .z))
 unfoldable pub counts : ℕ → ℕ → List ℕ
 counts steps looks = word (pos steps) ++ (word (pos looks) ++ (10 ∷ []))
 
+unfoldable pub toldAccepted : Accepted → List ℕ
+toldAccepted a = 78 ∷ (three (a .normal) ++ counts (a .steps) (a .looks))
+
+unfoldable pub toldRefused : Refused → List ℕ
+toldRefused r = 82 ∷ (word (pos (r .number)) ++ (three (r .place) ++ counts (r .steps) (r .looks)))
+
 unfoldable pub told : Pick → List ℕ
-told (Accepted a) = 78 ∷ (three (a .normal) ++ counts (a .steps) (a .looks))
-told (Refused r) = 82 ∷ (word (pos (r .number)) ++ (three (r .place) ++ counts (r .steps) (r .looks)))
+told (IsAccepted a) = toldAccepted a
+told (IsRefused r) = toldRefused r
 
 -- "B" for a line of another form
 unfoldable pub reply : Line → List ℕ

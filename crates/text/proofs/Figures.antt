@@ -1,5 +1,5 @@
 -- Each way out of `put_number` and of `put_signed`.
-use mathlib.Core.Path.{_≡_, refl, sym, ap, _∙_}
+use mathlib.Core.Path.{_≡_, sym, ap, _∙_}
 use mathlib.Core.List.{List, [], _∷_, _++_}
 use Prim.Native.Nat.{ℕ, _/_, _≤_, _<_}
 use Rattle.rules.specs.Decimals.{figure, decimal}

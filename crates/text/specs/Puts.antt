@@ -1,11 +1,10 @@
 -- Laws of bytes written one after another: two writes in a row are one write of both, so a caller needs only the first write's place.
 use mathlib.Core.Path.{_≡_, sym, ap, subst, _∙_}
 use mathlib.Core.List.{List, [], _∷_, _++_}
-use Prim.Native.Nat.{ℕ, suc, _+_, _≤_, _<_}
-use native.Mathlib.Numerals.{add-one}
+use Prim.Native.Nat.{ℕ, suc, _+_}
 use native.Mathlib.Omega.{arith}
-use lib.ListN.{length, drop, getD, set, length-append, drop-of-length-le}
-use lib.Seq.{sets, drop-cons, length-sets}
+use lib.ListN.{length, set, length-append}
+use lib.Seq.{sets, length-sets}
 use Rattle.text.specs.Put.{Room, Put}
 
 pub sets-append : (l : List ℕ) (i : ℕ) (a b : List ℕ) → sets l i (a ++ b) ≡ sets (sets l i a) (i + length a) b

@@ -1,6 +1,6 @@
-// Bytes and decimal numbers written into a lent buffer, one after another. Each function answers the place behind what it wrote.
+// Decimal digits; bytes and decimal numbers written into a lent buffer, one after another: each `put` answers the place behind what it wrote.
 ghost use mathlib.Core.Path.{_≡_};
-ghost use Rattle.rules.specs.Decimals.{figure, decimal, signedDecimal};
+ghost use Rattle.rules.specs.Decimals.{isDigit, figure, decimal, signedDecimal};
 ghost use Rattle.text.specs.Put.{Room, Put};
 
 pub fn put(out: &mut [u8], at: usize, bytes: &[u8]) -> usize
@@ -15,6 +15,15 @@ pub fn put(out: &mut [u8], at: usize, bytes: &[u8]) -> usize
         to = to + 1;
     }
     to
+}
+
+pub fn is_digit(b: u8) -> bool
+    ensures { λ r. ⌜ r ≡ isDigit b ⌝ }
+{
+    if b < 48 {
+        return false;
+    }
+    b <= 57
 }
 
 pub fn last_figure(n: u32) -> u8

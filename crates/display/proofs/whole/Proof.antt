@@ -2,7 +2,7 @@
 use native.Mathlib.Nat.{le-trans}
 use mathlib.Core.Bool.{false}
 use lib.Dec.{lit≤, le→leb}
-use lib.Ieee.{binary32, inFloat, ofInt, ofBits}
+use lib.Ieee.{binary32, inFloat, ofInt}
 use lib.Ieee.Back.{round-whole}
 use Rattle.display.proofs.whole.Statement.{statement}
 use Rattle.display.proofs.whole.Tie as tie

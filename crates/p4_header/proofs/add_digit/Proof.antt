@@ -1,5 +1,4 @@
 use native.Mathlib.Omega.{arith}
-use borrow.Author.Needs.{needs}
 use Rattle.p4_laws.specs.Scans.{digit-range}
 use Rattle.p4_header.proofs.add_digit.Statement.{statement}
 use Rattle.p4_header.proofs.add_digit.Tie as tie

@@ -64,7 +64,7 @@ pub +read-images-spec : {M : Type 1} → statement M
     (λ c. search needs)
     (λ c κs. let g = c .before .before .before .before .before .before in let b = g .before .before in let f = b .before .before in let k = f .before .before in
     let p = k .before .before .before .before .before .pre .1 in
-    (sides (p .0), copy-room (p .0) (p .1) (k .before .before .if1 .left) (k .before .if3 .left) (k .find-rows .ensures) (f .found2 .given .1) (b .slice-bytes .ensures) (g .read-images .ensures) (c .before .before .rest2 .given .1) (g .read-images .kept .1 .1 .0)))
+    (search (sides, arith), copy-room (p .0) (p .1) (k .before .before .if1 .left) (k .before .if3 .left) (k .find-rows .ensures) (f .found2 .given .1) (b .slice-bytes .ensures) _ (g .read-images .ensures) (c .before .before .rest2 .given .1) (g .read-images .kept .1 .1 .0) (omega arith)))
     (λ c. search part-not)
     (λ c. search needs)
     (λ c. search part-refused)

@@ -1,6 +1,5 @@
 -- `put` writes its bytes. The loop keeps `Putting`; what is left of the bytes is the measure.
 use Prim.Native.Nat.{_-_}
-use borrow.Author.Needs.{needs}
 use native.Mathlib.Omega.{arith}
 use lib.ListN.{length}
 use Rattle.text.proofs.Steps.{Putting, putting-starts, putting-more, putting-ends}

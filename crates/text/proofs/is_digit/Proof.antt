@@ -1,7 +1,8 @@
+-- Both ways out are the definition's test.
 use borrow.Author.Tests.{lt-leb, le-leb}
 use Rattle.rules.specs.Decimals.{isDigit}
-use Rattle.p4_header.proofs.is_digit.Statement.{statement}
-use Rattle.p4_header.proofs.is_digit.Tie as tie
+use Rattle.text.proofs.is_digit.Statement.{statement}
+use Rattle.text.proofs.is_digit.Tie as tie
 
 pub is-digit-spec : {M : Type 1} → statement M
 unfolding isDigit

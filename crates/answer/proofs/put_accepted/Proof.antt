@@ -1,0 +1,16 @@
+-- "N", normal, steps, looks.
+use borrow.Author.Needs.{needs}
+use Rattle.answer.proofs.Words.{wrote-accepted}
+use Rattle.answer.proofs.put_accepted.Statement.{statement}
+use Rattle.answer.proofs.put_accepted.Tie as tie
+
+pub put-accepted-spec : {M : Type 1} → statement M
+put-accepted-spec =
+    tie.close
+    (tie.spec
+    (λ c. search needs)
+    (λ c κs. search needs)
+    (λ c κs. search needs)
+    (λ c κs. search needs)
+    (λ c. search needs)
+    (λ c. search wrote-accepted))

@@ -1,0 +1,116 @@
+-- The loop of `read_digits`: the digits left say the number behind those that were read, and i digits say less than 10^i.
+use mathlib.Core.Path.{_≡_, refl, sym, ap, _∙_}
+use mathlib.Core.Bool.{Bool, true, false, _&&_}
+use mathlib.Core.List.{List, _∷_}
+use Prim.Native.Nat.{ℕ, _+_, _-_, _*_, _^_, _≤_, _<_}
+use native.Mathlib.Nat.{pow-suc, pow-le-pow-right}
+use native.Mathlib.Numerals.{add-one}
+use native.Mathlib.Omega.{arith}
+use lib.Dec.{leb, lit<}
+use lib.ListN.{length, drop, getD, drop-of-length-le}
+use lib.Seq.{drop-cons}
+use mir.Syntax.{w64}
+use mir.Val.{Fits}
+use borrow.Author.Tests.{le-leb, lt-leb, leb-true}
+use Rattle.rules.specs.Decimals.{isDigit, areDigits, value}
+use Rattle.rules.specs.Session.{fewDigits}
+use Rattle.line.specs.declared.Digits.the-variants.{Value, NoDigits}
+use Rattle.line.specs.Reading.{digitsOf, DigitsRead}
+
+-- both of a joined test
+both : (a b : Bool) → (a && b) ≡ true → (a ≡ true) × (b ≡ true)
+both true b e = (refl, e)
+both false true e = (e, refl)
+both false false e = (e, e)
+
+second-no : (a b : Bool) → b ≡ false → (a && b) ≡ false
+second-no true b e = e
+second-no false b e = refl
+
+digit-range : (b : ℕ) → isDigit b ≡ true → (48 ≤ b) × (b ≤ 57)
+unfolding isDigit
+digit-range b e = let h = both (leb 48 b) (leb b 57) e in (leb-true 48 b (h .0), leb-true b 57 (h .1))
+
+-- ---- ways out that give no digits
+no-digits : (part : List ℕ) → fewDigits part ≡ false → DigitsRead part NoDigits
+no-digits part e = record { is = sym (rw (e, digitsOf)) }
+
+pub none : {part : List ℕ} → length part < 1 → DigitsRead part NoDigits
+unfolding fewDigits
+none {part} h = no-digits part (ap (λ (t : Bool). t && (leb (length part) 10 && areDigits part)) (lt-leb 1 (length part) h))
+
+pub too-many : {part : List ℕ} → 10 < length part → DigitsRead part NoDigits
+unfolding fewDigits
+too-many {part} h = no-digits part (second-no (leb 1 (length part)) _ (ap (λ (t : Bool). t && areDigits part) (lt-leb (length part) 10 h)))
+
+pub record Reading (part : List ℕ) (i v : ℕ) : Type 0 where
+  pub some : 1 ≤ length part
+  pub few : length part ≤ 10
+  pub count : i ≤ length part
+  pub small : v < 10 ^ i
+  pub says : value 0 part ≡ value v (drop i part)
+  pub digits : areDigits part ≡ areDigits (drop i part)
+
+pub reading-starts : {part : List ℕ} → 1 ≤ length part → length part ≤ 10 → Reading part 0 0
+reading-starts h k = record { some = h; few = k; count = omega arith; small = lit< tt; says = refl; digits = refl }
+
+module _ {part : List ℕ} {i v : ℕ} (R : Reading part i v) where
+  cut : i < length part → drop i part ≡ getD part i 0 ∷ drop (i + 1) part
+  cut h = drop-cons part i 0 h ∙ ap (λ (k : ℕ). getD part i 0 ∷ drop k part) (sym (add-one i))
+
+  under : v < 10000000000
+  under =
+      let c = R .count in
+      let f = R .few in
+      let ten : i ≤ 10 = omega arith in
+      let p = pow-le-pow-right {n = 10} (lit< tt) ten in
+      let s = R .small in
+      omega arith
+
+  pub tenfold-fits : Fits w64 (v * 10)
+  tenfold-fits = let u = under in record { fits = omega arith }
+
+  module _ {r : Bool} (h : i < length part) (e : r ≡ isDigit (getD part i 0)) where
+    abbrev here : ℕ
+    here = getD part i 0
+
+    pub digit-low : r ≡ true → 48 ≤ here
+    digit-low y = digit-range here (sym e ∙ y) .0
+
+    digit-high : r ≡ true → here ≤ 57
+    digit-high y = digit-range here (sym e ∙ y) .1
+
+    pub digit-fits : r ≡ true → Fits w64 (here - 48)
+    digit-fits y = let high = digit-high y in record { fits = omega arith }
+
+    pub next-fits : r ≡ true → Fits w64 (v * 10 + (here - 48))
+    next-fits y = let high = digit-high y in let u = under in record { fits = omega arith }
+
+    pub reading-more : r ≡ true → Reading part (i + 1) (v * 10 + (here - 48))
+    unfolding value areDigits
+    reading-more y = record {
+      some = R .some;
+      few = R .few;
+      count = omega arith;
+      small =
+          let high = digit-high y in
+          let s = R .small in
+          let p = pow-suc 10 i in
+          rw (add-one i) (omega arith);
+      says = R .says ∙ ap (value v) (cut h);
+      digits = R .digits ∙ ap areDigits (cut h) ∙ ap (λ (t : Bool). t && areDigits (drop (i + 1) part)) (sym e ∙ y);
+    }
+
+    pub no-digit : r ≡ false → DigitsRead part NoDigits
+    unfolding fewDigits areDigits
+    no-digit y = no-digits part (second-no (leb 1 (length part)) _ (second-no (leb (length part) 10) _ (R .digits ∙ ap areDigits (cut h) ∙ ap (λ (t : Bool). t && areDigits (drop (i + 1) part)) (sym e ∙ y))))
+
+  pub all-read : length part ≤ i → DigitsRead part (Value v)
+  unfolding fewDigits areDigits value
+  all-read h =
+      let z = drop-of-length-le part h in
+      let few : fewDigits part ≡ true =
+      ap (λ (t : Bool). t && (leb (length part) 10 && areDigits part)) (le-leb 1 (length part) (R .some))
+      ∙ ap (λ (t : Bool). t && areDigits part) (le-leb (length part) 10 (R .few))
+      ∙ R .digits ∙ ap areDigits z in
+      record { is = sym (rw (few, digitsOf) (ap Value (R .says ∙ ap (value v) z))) }

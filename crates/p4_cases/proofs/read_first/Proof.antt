@@ -1,0 +1,15 @@
+use mathlib.Core.Path.{sym}
+use borrow.Author.Needs.{needs}
+use lib.Seq.{length-take-le}
+use Rattle.p4_cases.proofs.read_first.Statement.{statement}
+use Rattle.p4_cases.proofs.read_first.Tie as tie
+
+pub read-first-spec : {M : Type 1} → statement M
+read-first-spec =
+    tie.close
+    (tie.spec
+    (λ c. sym (length-take-le _ _ (c .before .if1 .taken)))
+    (λ c κs. search needs)
+    (λ c. search needs)
+    (λ c. search needs)
+    (λ c. search needs))

@@ -1,0 +1,4 @@
+-- `Theorems` is the front door.
+pub mod Printing
+pub mod Lengths
+pub mod Theorems

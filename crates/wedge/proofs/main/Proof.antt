@@ -1,0 +1,22 @@
+-- `main` lends the bytes read to the session, and writes the bytes that it counted, which lie inside the output.
+use mathlib.Core.Path.{sym}
+use borrow.Author.Needs.{needs}
+use lib.Seq.{length-take-le}
+use Rattle.session.specs.Theorems.{count-inside}
+use Rattle.wedge.proofs.main.Statement.{statement}
+use Rattle.wedge.proofs.main.Tie as tie
+
+pub main-spec : {M : Type 1} → statement M
+main-spec =
+    tie.close
+    (tie.spec
+    (λ c κs. search needs)
+    (λ c. search needs)
+    (λ c κs. search needs)
+    (λ c. search needs)
+    (λ c. search needs)
+    (λ c κs. search needs)
+    (λ c. count-inside (c .run .ensures .promise))
+    (λ c. sym (length-take-le (c .before .run .result) (c .before .run .last .1 .0) (count-inside (c .before .run .ensures .promise))))
+    (λ c κs. search needs)
+    (λ c. search needs))
