@@ -1,9 +1,9 @@
 -- The round, pair by pair: a pair that fell is weighed against the best so far, one that kept is passed over, a point outside ends the round.
 -- The best of those that fall is the definition's choice, since the triangle's determinant is 1.
-use mathlib.Core.Path.{_≡_, refl, sym, ap, _∙_}
+use mathlib.Core.Path.{_≡_, refl, sym, ap, subst, _∙_}
 use mathlib.Core.Bool.{Bool, true, false}
 use mathlib.Core.List.{List, [], _∷_}
-use Prim.Native.Nat.{ℕ}
+use Prim.Native.Nat.{ℕ, suc, _+_, _*_, _≤_, _<_}
 use native.Mathlib.Omega.{arith}
 use lib.IntN.{pos}
 use Rattle.rules.specs.declared.Vector.{Vector}
@@ -15,7 +15,7 @@ use Rattle.rules.specs.declared.Choice.{Choice}
 use Rattle.rules.specs.declared.Choice.the-variants.{Nothing, Chosen}
 use Rattle.rules.specs.Vectors.{_⊕_, _⊖_, lay}
 use Rattle.rules.specs.Asked.{Asked, answered, _>>=_}
-use Rattle.rules.specs.Walk.{powers, pairs, way, determinant, inside, keep, falls, falling, round}
+use Rattle.rules.specs.Walk.{powers, pairs, first, second, way, determinant, inside, keep, falls, falling, round}
 use Rattle.falls.specs.Tally.{Tally, yes, no, tally, Gives}
 use Rattle.falls.specs.declared.Falls.{Falls}
 use Rattle.falls.specs.declared.Falls.the-variants.{Fell, Kept, Stopped as Stops}
@@ -23,7 +23,7 @@ use Rattle.falls.specs.Falls.{told, looksOf as looksOfFalls, Fallen}
 use Rattle.falls.proofs.Tallies.{then-yes, inner-yes, inner-no, made-twice, at-once}
 use Rattle.laws.specs.Triples.{detOf}
 use Rattle.laws.specs.Choosing.{better, best, best-is-choice}
-use Rattle.round.specs.Round.{Sound, told as toldRound, looksOf, bestOf, rowOf, nearer, Weighs, Weighed, Preferred, Made, remaining, rest, PairAsked, RoundAsked}
+use Rattle.round.specs.Round.{Sound, told as toldRound, looksOf, bestOf, rowOf, nearer, Weighs, Weighed, Preferred, Made, after, remaining, rest, PairAsked, RoundAsked}
 use Rattle.round.proofs.Pairs.{way-is}
 use Rattle.round.specs.declared.Best.{Best}
 use Rattle.round.specs.declared.Round.{Round}
@@ -115,26 +115,69 @@ best-of-all : (look : Vector → Look) (q s : Vector) (reach : ℕ) (m : Triangl
 unfolding remaining round
 best-of-all look q s reach m n d = ap (λ (g : List Pair → Choice). tally n (falling look q s (powers reach) m pairs >>= λ fs. answered (g fs) [])) (λ i fs. best-is-choice m d fs i)
 
-module _ {look : Vector → Look} {q s : Vector} {reach : ℕ} {m : Triangle} {n : ℕ} {a b c d e f : Round} {none : Vector} where
-  pub round-asked : Sound m
-      → PairAsked look q s reach m P01 (IsAsked (bestOf Nothing none) n) a
-      → PairAsked look q s reach m P02 a b
-      → PairAsked look q s reach m P10 b c
-      → PairAsked look q s reach m P12 c d
-      → PairAsked look q s reach m P20 d e
-      → PairAsked look q s reach m P21 e f
-      → RoundAsked look q s reach m n f
-  round-asked h pa pb pc pd pe pf = record {
-    gives = record {
-      is = none-left look q s reach m (toldRound f)
-          ∙ pf .is []
-          ∙ pe .is (P21 ∷ [])
-          ∙ pd .is (P20 ∷ P21 ∷ [])
-          ∙ pc .is (P12 ∷ P20 ∷ P21 ∷ [])
-          ∙ pb .is (P10 ∷ P12 ∷ P20 ∷ P21 ∷ [])
-          ∙ pa .is (P02 ∷ P10 ∷ P12 ∷ P20 ∷ P21 ∷ [])
-          ∙ best-of-all look q s reach m n (h .unimodular);
-    };
-    weighed = pf .weighed;
-    few = omega (arith, pa .few, pb .few, pc .few, pd .few, pe .few, pf .few);
-  }
+-- the pairs after x
+pub behind : Pair → List Pair
+behind P01 = P02 ∷ P10 ∷ P12 ∷ P20 ∷ P21 ∷ []
+behind P02 = P10 ∷ P12 ∷ P20 ∷ P21 ∷ []
+behind P10 = P12 ∷ P20 ∷ P21 ∷ []
+behind P12 = P20 ∷ P21 ∷ []
+behind P20 = P21 ∷ []
+behind P21 = []
+
+-- how many they are
+pub left : Pair → ℕ
+left P01 = 5
+left P02 = 4
+left P10 = 3
+left P12 = 2
+left P20 = 1
+left P21 = 0
+
+-- before the pair x: the rest of the round gives what the whole round gives
+module _ (look : Vector → Look) (q s : Vector) (reach : ℕ) (m : Triangle) (n : ℕ) where
+  pub record Asking (x : Pair) (sofar : Round) : Type 0 where
+    pub rest-gives : rest look q s reach m (x ∷ behind x) (toldRound sofar) ≡ tally n (round look q s (powers reach) m)
+    pub weighed : Weighed m sofar
+    pub few : looksOf sofar + 512 * suc (left x) ≤ n + 3072
+
+  abbrev Goes : Pair → Choice → Round → Type 0
+  Goes x Nothing r = RoundAsked look q s reach m n r
+  Goes x (Chosen y) r = Asking y r × (left x ≡ suc (left y))
+
+  goes-on : (x y : Pair) {sofar r : Round} → behind x ≡ y ∷ behind y → left x ≡ suc (left y) → Asking x sofar → PairAsked look q s reach m x sofar r → Asking y r × (left x ≡ suc (left y))
+  goes-on x y {sofar} {r} b l h p = (record { rest-gives = ap (λ (ps : List Pair). rest look q s reach m ps (toldRound r)) (sym b) ∙ p .is (behind x) ∙ h .rest-gives; weighed = p .weighed; few = omega (arith, p .few, h .few, l) }, l)
+
+  goes : (x : Pair) {sofar r : Round} → Asking x sofar → PairAsked look q s reach m x sofar r → Goes x (after x) r
+  unfolding behind left
+  goes P01 h p = goes-on P01 P02 refl refl h p
+  goes P02 h p = goes-on P02 P10 refl refl h p
+  goes P10 h p = goes-on P10 P12 refl refl h p
+  goes P12 h p = goes-on P12 P20 refl refl h p
+  goes P20 h p = goes-on P20 P21 refl refl h p
+  goes P21 {sofar} {r} h p = record { gives = record { is = none-left look q s reach m (toldRound r) ∙ p .is [] ∙ h .rest-gives }; weighed = p .weighed; few = omega (arith, p .few, h .few) }
+
+module _ {look : Vector → Look} {q s : Vector} {reach : ℕ} {m : Triangle} {n : ℕ} where
+  pub asking-begins : {none : Vector} → Sound m → Asking look q s reach m n P01 (IsAsked (bestOf Nothing none) n)
+  unfolding behind left
+  asking-begins h = record { rest-gives = best-of-all look q s reach m n (h .unimodular); weighed = tt; few = omega arith }
+
+  module _ {x : Pair} {sofar r : Round} {c : Choice} (h : Asking look q s reach m n x sofar) (p : PairAsked look q s reach m x sofar r) (e : c ≡ after x) where
+    pub asking-ends : c ≡ Nothing → RoundAsked look q s reach m n r
+    asking-ends i = subst (λ (d : Choice). Goes look q s reach m n x d r) (sym e ∙ i) (goes look q s reach m n x h p)
+
+    on : {y : Pair} → c ≡ Chosen y → Asking look q s reach m n y r × (left x ≡ suc (left y))
+    on i = subst (λ (d : Choice). Goes look q s reach m n x d r) (sym e ∙ i) (goes look q s reach m n x h p)
+
+    pub asking-on : {y : Pair} → c ≡ Chosen y → Asking look q s reach m n y r
+    asking-on i = on i .0
+
+    pub asking-less : {y : Pair} → c ≡ Chosen y → left y < left x
+    asking-less i = omega (arith, on i .1)
+
+  pub asking-few : {x : Pair} {sofar : Round} → n ≤ 1000000 → Asking look q s reach m n x sofar → looksOf sofar ≤ 1500000
+  asking-few {x} k h = omega (arith, k, h .few)
+
+pub made-of : {m : Triangle} {x : Pair} {a b : Vector} → a ≡ first m x → b ≡ second m x → Made m x a b
+made-of p q = record { first-is = p; second-is = q }
+
+pub ruleset asking = (asking-begins, asking-ends, asking-on, asking-less)

@@ -9,6 +9,7 @@ use Rattle.rules.specs.declared.Vector.{Vector}
 use Rattle.rules.specs.declared.Look.{Look}
 use Rattle.rules.specs.declared.Triangle.{Triangle}
 use Rattle.rules.specs.declared.Pair.{Pair}
+use Rattle.rules.specs.declared.Pair.the-variants.{P01, P02, P10, P12, P20, P21}
 use Rattle.rules.specs.declared.Choice.{Choice}
 use Rattle.rules.specs.declared.Choice.the-variants.{Nothing, Chosen}
 use Rattle.rules.specs.Vectors.{_⊕_, _⊖_, sphere}
@@ -63,6 +64,15 @@ Weighed m (Stopped p n) = Unit {0}
 pub record Preferred (m : Triangle) (before : Best) (y : Pair) (r : Best) : Type 0 where
   pub is : r .choice ≡ better m (before .choice) y
   pub weighed : Weighs m (r .choice) (r .row)
+
+-- the pairs in their order
+abbrev pub after : Pair → Choice
+after P01 = Chosen P02
+after P02 = Chosen P10
+after P10 = Chosen P12
+after P12 = Chosen P20
+after P20 = Chosen P21
+after P21 = Nothing
 
 -- the pair x is made of a and b
 pub record Made (m : Triangle) (x : Pair) (a b : Vector) : Type 0 where

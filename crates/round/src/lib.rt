@@ -4,7 +4,7 @@ ghost use Prim.Native.Nat.{_≤_};
 ghost use Rattle.rules.specs.Walk.{triangle, first, second, way, with, step};
 ghost use Rattle.laws.specs.Ranges.{Bounded};
 ghost use Rattle.falls.specs.Scene.{Ready};
-ghost use Rattle.round.specs.Round.{Sound, nearer, Weighs, Weighed, Preferred, Made, looksOf, PairAskedIn, RoundAskedIn};
+ghost use Rattle.round.specs.Round.{Sound, nearer, Weighs, Weighed, Preferred, Made, after, looksOf, PairAskedIn, RoundAskedIn};
 use falls::Falls;
 use falls::Scene;
 use rules::Choice;
@@ -160,30 +160,46 @@ fn ask_pair(
     }
 }
 
+// The pairs in their order: after the last, none.
+fn pair_after(x: Pair) -> Choice
+    ensures { λ r. ⌜ r ≡ after x ⌝ }
+{
+    match x {
+        Pair::P01 => Choice::Chosen(Pair::P02),
+        Pair::P02 => Choice::Chosen(Pair::P10),
+        Pair::P10 => Choice::Chosen(Pair::P12),
+        Pair::P12 => Choice::Chosen(Pair::P20),
+        Pair::P20 => Choice::Chosen(Pair::P21),
+        Pair::P21 => Choice::Nothing,
+    }
+}
+
 // All six pairs, even after one has fallen.
 pub fn ask_round(scene: Scene, bytes: &[u8], m: Triangle, looks: u32) -> Round
     requires { ⌜ Ready scene (now bytes) × Sound m × (looks ≤ 1000000) ⌝ }
     ensures { λ r. ⌜ RoundAskedIn scene (now (bytes .entry)) m looks r ⌝ }
 {
     let m0 = m.m0;
-    let m1 = m.m1;
-    let m2 = m.m2;
     let none = Best {
         choice: Choice::Nothing,
         row: m0,
     };
-    let a = ask_pair(
-        scene,
-        bytes,
-        m,
-        Pair::P01,
-        m0,
-        m1,
-        Round::Asked(none, looks),
-    );
-    let b = ask_pair(scene, bytes, m, Pair::P02, m0, m2, a);
-    let c = ask_pair(scene, bytes, m, Pair::P10, m1, m0, b);
-    let d = ask_pair(scene, bytes, m, Pair::P12, m1, m2, c);
-    let e = ask_pair(scene, bytes, m, Pair::P20, m2, m0, d);
-    ask_pair(scene, bytes, m, Pair::P21, m2, m1, e)
+    let mut x = Pair::P01;
+    let mut sofar = Round::Asked(none, looks);
+    let end = loop {
+        let a = first_of(m, x);
+        let b = second_of(m, x);
+        let r = ask_pair(scene, bytes, m, x, a, b, sofar);
+        let next = pair_after(x);
+        match next {
+            Choice::Nothing => {
+                break r;
+            }
+            Choice::Chosen(y) => {
+                x = y;
+                sofar = r;
+            }
+        }
+    };
+    end
 }
