@@ -6,6 +6,7 @@ use mathlib.Core.List.{List, [], _∷_}
 use Prim.Native.Nat.{ℕ, suc, _+_, _*_, _≤_, _<_}
 use native.Mathlib.Omega.{arith}
 use lib.IntN.{pos}
+use lib.ListN.{length}
 use Rattle.rules.specs.declared.Vector.{Vector}
 use Rattle.rules.specs.declared.Look.{Look}
 use Rattle.rules.specs.declared.Triangle.{Triangle}
@@ -124,14 +125,8 @@ behind P12 = P20 ∷ P21 ∷ []
 behind P20 = P21 ∷ []
 behind P21 = []
 
--- how many they are
 pub left : Pair → ℕ
-left P01 = 5
-left P02 = 4
-left P10 = 3
-left P12 = 2
-left P20 = 1
-left P21 = 0
+left x = length (behind x)
 
 -- before the pair x: the rest of the round gives what the whole round gives
 module _ (look : Vector → Look) (q s : Vector) (reach : ℕ) (m : Triangle) (n : ℕ) where
