@@ -1,5 +1,5 @@
 -- Sizes of what the pairs of a sound triangle name, and of the rows of the determinant.
-use mathlib.Core.Path.{_≡_, refl, _∙_}
+use mathlib.Core.Path.{_≡_, refl}
 use lib.Dec.{lit≤}
 use Rattle.rules.specs.declared.Vector.{Vector}
 use Rattle.rules.specs.declared.Triangle.{Triangle}
@@ -13,7 +13,7 @@ use Rattle.laws.specs.Triples.{All, all-first, all-second}
 use Rattle.laws.specs.Ranges.{Bounded}
 use Rattle.space.specs.Bounds.{bounded-is, bounded-wider, bounded-sum, bounded-difference, bounded-lay}
 use Rattle.falls.proofs.Scenes.{signs-bounded}
-use Rattle.round.specs.Round.{Sound, Weighs, Made}
+use Rattle.round.specs.Round.{Sound, Weighs}
 
 module _ {m : Triangle} (h : Sound m) where
   all-bounded : All (Bounded 1023) m
@@ -25,8 +25,8 @@ module _ {m : Triangle} (h : Sound m) where
   pub step-fits : (x : Pair) {a b : Vector} → a ≡ first m x → b ≡ second m x → Bounded 1000000000 a × Bounded 1000000000 b
   step-fits x p q = (bounded-is p (bounded-wider (all-first all-bounded x) (lit≤ tt)), bounded-is q (bounded-wider (all-second all-bounded x) (lit≤ tt)))
 
-  pub way-fits : {x : Pair} {a b : Vector} → Made m x a b → Bounded 1000000000 b × Bounded 1000000000 a
-  way-fits {x} k = let f = step-fits x (k .first-is) (k .second-is) in (f .1, f .0)
+  pub way-fits : (x : Pair) {a b : Vector} → a ≡ first m x → b ≡ second m x → Bounded 1000000000 b × Bounded 1000000000 a
+  way-fits x p q = let f = step-fits x p q in (f .1, f .0)
 
   module _ (x : Pair) {w : Vector} (e : w ≡ way m x) where
     -- ---- a way, laid in
@@ -52,7 +52,3 @@ module _ {m : Triangle} (h : Sound m) where
 
   pub corner2 : {r : Vector} → r ≡ m .m0 ⊖ m .m2 → Bounded 2046 r
   corner2 e = bounded-is e (bounded-difference (h .in0) (h .in2))
-
--- the way of the pair made of a and b
-pub way-is : {m : Triangle} {x : Pair} {a b w : Vector} → Made m x a b → w ≡ b ⊖ a → w ≡ way m x
-way-is h e = e ∙ (λ i. h .second-is i ⊖ h .first-is i)

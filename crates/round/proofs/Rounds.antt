@@ -14,9 +14,9 @@ use Rattle.rules.specs.declared.Pair.{Pair}
 use Rattle.rules.specs.declared.Pair.the-variants.{P01, P02, P10, P12, P20, P21}
 use Rattle.rules.specs.declared.Choice.{Choice}
 use Rattle.rules.specs.declared.Choice.the-variants.{Nothing, Chosen}
-use Rattle.rules.specs.Vectors.{_⊕_, _⊖_, lay}
+use Rattle.rules.specs.Vectors.{_⊕_, lay}
 use Rattle.rules.specs.Asked.{Asked, answered, _>>=_}
-use Rattle.rules.specs.Walk.{powers, pairs, first, second, way, determinant, inside, keep, falls, falling, round}
+use Rattle.rules.specs.Walk.{powers, pairs, way, determinant, inside, keep, falls, falling, round}
 use Rattle.falls.specs.Tally.{Tally, yes, no, tally, Gives}
 use Rattle.falls.specs.declared.Falls.{Falls}
 use Rattle.falls.specs.declared.Falls.the-variants.{Fell, Kept, Stopped as Stops}
@@ -24,8 +24,7 @@ use Rattle.falls.specs.Falls.{told, looksOf as looksOfFalls, Fallen}
 use Rattle.falls.proofs.Tallies.{then-yes, inner-yes, inner-no, made-twice, at-once}
 use Rattle.laws.specs.Triples.{detOf}
 use Rattle.laws.specs.Choosing.{better, best, best-is-choice}
-use Rattle.round.specs.Round.{Sound, told as toldRound, looksOf, bestOf, rowOf, nearer, Weighs, Weighed, Preferred, Made, after, remaining, rest, PairAsked, RoundAsked}
-use Rattle.round.proofs.Pairs.{way-is}
+use Rattle.round.specs.Round.{Sound, told as toldRound, looksOf, bestOf, rowOf, nearer, Weighs, Weighed, Preferred, after, remaining, rest, PairAsked, RoundAsked}
 use Rattle.round.specs.declared.Best.{Best}
 use Rattle.round.specs.declared.Round.{Round}
 use Rattle.round.specs.declared.Round.the-variants.{Asked as IsAsked, Stopped}
@@ -80,13 +79,13 @@ module _ {look : Vector → Look} {q s : Vector} {reach : ℕ} {m : Triangle} {x
   pub pair-halted : {p : Vector} {n : ℕ} → before ≡ Stopped p n → PairAsked look q s reach m x before (Stopped p n)
   pair-halted e = record { is = λ ps. sym (ap (λ (r : Round). rest look q s reach m (x ∷ ps) (toldRound r)) e); weighed = tt; few = omega (arith, ap looksOf e) }
 
-  module _ {k : Best} {n : ℕ} {f : Falls} {a b u w : Vector} (h : Fallen look q u reach n f) (i : u ≡ lay s w) (j : w ≡ b ⊖ a) (made : Made m x a b) (e : before ≡ IsAsked k n) where
+  module _ {k : Best} {n : ℕ} {f : Falls} {u w : Vector} (h : Fallen look q u reach n f) (i : u ≡ lay s w) (j : w ≡ way m x) (e : before ≡ IsAsked k n) where
     pair-by : {r : Round} → toldRound r ≡ weighed look q s reach m x (k .choice) f → looksOf r ≡ looksOfFalls f → Weighed m r → PairAsked look q s reach m x before r
     unfolding question
     pair-by {r} v l o = record {
       is = λ ps.
           ap (rest look q s reach m ps) v
-          ∙ rest-is look q s reach m x (k .choice) n ps f (rw (← way-is made j, ← i) (h .gives))
+          ∙ rest-is look q s reach m x (k .choice) n ps f (rw (← j, ← i) (h .gives))
           ∙ sym (ap (λ (r : Round). rest look q s reach m (x ∷ ps) (toldRound r)) e);
       weighed = o;
       few = omega (arith, h .few, l, ap looksOf e);
@@ -171,8 +170,5 @@ module _ {look : Vector → Look} {q s : Vector} {reach : ℕ} {m : Triangle} {n
 
   pub asking-few : {x : Pair} {sofar : Round} → n ≤ 1000000 → Asking look q s reach m n x sofar → looksOf sofar ≤ 1500000
   asking-few {x} k h = omega (arith, k, h .few)
-
-pub made-of : {m : Triangle} {x : Pair} {a b : Vector} → a ≡ first m x → b ≡ second m x → Made m x a b
-made-of p q = record { first-is = p; second-is = q }
 
 pub ruleset asking = (asking-begins, asking-ends, asking-on, asking-less)

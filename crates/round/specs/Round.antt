@@ -15,7 +15,7 @@ use Rattle.rules.specs.declared.Choice.the-variants.{Nothing, Chosen}
 use Rattle.rules.specs.Vectors.{_⊕_, _⊖_, sphere}
 use Rattle.rules.specs.Solids.{look}
 use Rattle.rules.specs.Asked.{Asked, answered, _>>=_}
-use Rattle.rules.specs.Walk.{first, second, way, powers, falling, round}
+use Rattle.rules.specs.Walk.{way, powers, falling, round}
 use Rattle.laws.specs.Triples.{detOf}
 use Rattle.laws.specs.Choosing.{better, best}
 use Rattle.laws.specs.Ranges.{Bounded}
@@ -73,11 +73,6 @@ after P10 = Chosen P12
 after P12 = Chosen P20
 after P20 = Chosen P21
 after P21 = Nothing
-
--- the pair x is made of a and b
-pub record Made (m : Triangle) (x : Pair) (a b : Vector) : Type 0 where
-  pub first-is : a ≡ first m x
-  pub second-is : b ≡ second m x
 
 module _ (look : Vector → Look) (q s : Vector) (reach : ℕ) (m : Triangle) where
   -- the pairs that are left, after those of which c is the best

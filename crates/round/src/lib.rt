@@ -4,7 +4,7 @@ ghost use Prim.Native.Nat.{_≤_};
 ghost use Rattle.rules.specs.Walk.{triangle, first, second, way, with, step};
 ghost use Rattle.laws.specs.Ranges.{Bounded};
 ghost use Rattle.falls.specs.Scene.{Ready};
-ghost use Rattle.round.specs.Round.{Sound, nearer, Weighs, Weighed, Preferred, Made, after, looksOf, PairAskedIn, RoundAskedIn};
+ghost use Rattle.round.specs.Round.{Sound, nearer, Weighs, Weighed, Preferred, after, looksOf, PairAskedIn, RoundAskedIn};
 use falls::Falls;
 use falls::Scene;
 use rules::Choice;
@@ -52,6 +52,14 @@ fn second_of(m: Triangle, x: Pair) -> Vector
         Pair::P20 => m.m0,
         Pair::P21 => m.m1,
     }
+}
+
+// m_l - m_k
+fn way_of(m: Triangle, x: Pair) -> Vector
+    requires { ⌜ Sound m ⌝ }
+    ensures { λ r. ⌜ r ≡ way m x ⌝ }
+{
+    space::subtract(second_of(m, x), first_of(m, x))
 }
 
 pub fn make_triangle(a: Vector, b: Vector, c: Vector) -> Triangle
@@ -131,24 +139,16 @@ fn prefer(m: Triangle, sofar: Best, y: Pair, w: Vector) -> Best
 
 // ---- the round
 
-// One pair more: x, whose m_k is a and whose m_l is b.
-fn ask_pair(
-    scene: Scene,
-    bytes: &[u8],
-    m: Triangle,
-    x: Pair,
-    a: Vector,
-    b: Vector,
-    sofar: Round,
-) -> Round
-    requires { ⌜ Ready scene (now bytes) × Sound m × Made m x a b × Weighed m sofar × (looksOf sofar ≤ 1500000) ⌝ }
+// One pair more.
+fn ask_pair(scene: Scene, bytes: &[u8], m: Triangle, x: Pair, sofar: Round) -> Round
+    requires { ⌜ Ready scene (now bytes) × Sound m × Weighed m sofar × (looksOf sofar ≤ 1500000) ⌝ }
     ensures { λ r. ⌜ PairAskedIn scene (now (bytes .entry)) m x sofar r ⌝ }
 {
     match sofar {
         Round::Stopped(p, n) => Round::Stopped(p, n),
         Round::Asked(best, n) => {
             let s = scene.signs;
-            let w = space::subtract(b, a);
+            let w = way_of(m, x);
             let u = space::lay(s, w);
             let f = falls::ask_falls(scene, bytes, u, n);
             match f {
@@ -187,9 +187,7 @@ pub fn ask_round(scene: Scene, bytes: &[u8], m: Triangle, looks: u32) -> Round
     let mut x = Pair::P01;
     let mut sofar = Round::Asked(none, looks);
     let end = loop {
-        let a = first_of(m, x);
-        let b = second_of(m, x);
-        let r = ask_pair(scene, bytes, m, x, a, b, sofar);
+        let r = ask_pair(scene, bytes, m, x, sofar);
         let next = pair_after(x);
         match next {
             Choice::Nothing => {

@@ -1,7 +1,7 @@
 -- `round::ask_round` meets its contract. The loop's invariant: the pairs from here on give what the whole round gives. The measure is the pairs that are left.
 use borrow.Author.Needs.{needs}
 use Rattle.rules.specs.Solids.{look}
-use Rattle.round.proofs.Rounds.{left, Asking, asking, asking-few, made-of}
+use Rattle.round.proofs.Rounds.{left, Asking, asking, asking-few}
 use Rattle.round.proofs.ask_round.Statement.{statement}
 use Rattle.round.proofs.ask_round.Tie as tie
 
@@ -13,9 +13,9 @@ abbrev μ-loop : tie.MeasureT-loop
 
 ask-pair-requires : tie.Need-ask-pair-requires Inv-loop μ-loop
 ask-pair-requires c κs =
-    let h = c .before .before .loop .inv in
-    let s = c .before .before .before .before .before in
-    (s .pre .0, s .pre .1, made-of (c .before .first-of .ensures) (c .second-of .ensures), h .weighed, asking-few (s .pre .2) h)
+    let h = c .loop .inv in
+    let s = c .before .before .before in
+    (s .pre .0, s .pre .1, h .weighed, asking-few (s .pre .2) h)
 
 pub ask-round-spec : {M : Type 1} → statement M
 ask-round-spec =
@@ -24,8 +24,6 @@ ask-round-spec =
     Inv-loop
     μ-loop
     (λ c. search asking)
-    (λ c κs. search needs)
-    (λ c κs. search needs)
     ask-pair-requires
     (λ c κs. search needs)
     (λ c. search needs)
