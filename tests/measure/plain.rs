@@ -204,20 +204,20 @@ fn determinant(upper: &[i64; 6], lower: [i64; 6]) -> i64 {
         + upper[5] * lower[0]
 }
 
+/// The first falling pair of which no other is inside its sphere. As in the library, each falling
+/// pair is compared with the best so far alone.
 fn choice(m: &[Vector; 3], falling: [bool; 6]) -> (usize, usize) {
     let upper = minors(row(minus(m[0], m[1])), row(minus(m[0], m[2])));
-    let rows = PAIRS.map(|(k, l)| row(plus(minus(m[l], m[k]), m[0])));
-    for chosen in (0..6).filter(|&pair| falling[pair]) {
-        let inside = |other: usize| {
-            falling[other]
-                && other != chosen
-                && determinant(&upper, minors(rows[chosen], rows[other])) < 0
+    let mut best: Option<(usize, Row)> = None;
+    for pair in (0..6).filter(|&pair| falling[pair]) {
+        let (k, l) = PAIRS[pair];
+        let own = row(plus(minus(m[l], m[k]), m[0]));
+        best = match best {
+            Some((_, kept)) if determinant(&upper, minors(kept, own)) >= 0 => best,
+            _ => Some((pair, own)),
         };
-        if !(0..6).any(inside) {
-            return PAIRS[chosen];
-        }
     }
-    unreachable!("some sphere is empty")
+    PAIRS[best.expect("a pair falls").0]
 }
 
 fn refused(number: u32, place: Vector, steps: u32, looks: u32) -> Pick {

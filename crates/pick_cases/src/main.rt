@@ -1,5 +1,5 @@
 // Document 01's listed cases of a pick, run through the proved code, a line each, in the form of the wedge program:
-// "N", normal, steps, looks; or "R", number, place, steps, looks. `stdout` has what the document says.
+// "N", normal, steps, looks; or "R", number, place, steps, looks. `stdout` has what the document says; the looks that it leaves open (59, 178, 71) are the second program's.
 use rules::Pick;
 use rules::Stack;
 use rules::Vector;
