@@ -12,7 +12,7 @@ use Rattle.integers.specs.Sizes.{product-size}
 use Rattle.rules.specs.declared.Vector.{Vector}
 use Rattle.rules.specs.Vectors.{_⊕_, _⊖_, scale, dot, lay, size}
 use Rattle.rules.specs.Walk.{sign, signs}
-use Rattle.laws.specs.Parts.{Parts, vector-eq, Positive, of3}
+use Rattle.laws.specs.Parts.{Parts, vector-eq, NonNegative, Positive, of3}
 
 abbrev pub IsSign : ℤ → Type 0
 IsSign z = (z ≡ pos 1) ⊎ (z ≡ negsuc 0)
@@ -77,11 +77,11 @@ pub lay-size : (s a : Vector) → Signs s → size (lay s a) ≡ size a
 unfolding size lay
 lay-size s a g = ap₂ _+_ (ap₂ _+_ (sign-size _ _ (g .ofX)) (sign-size _ _ (g .ofY))) (sign-size _ _ (g .ofZ))
 
-natural : (z : ℤ) → pos 1 ≤ℤ z → z ≡ pos (natAbs z)
+natural : (z : ℤ) → pos 0 ≤ℤ z → z ≡ pos (natAbs z)
 natural (pos k) h = refl
 natural (negsuc k) h = absurd (h .le)
 
-pub sum-size : (n : Vector) → Positive n → n .x +ℤ n .y +ℤ n .z ≡ pos (size n)
+pub sum-size : (n : Vector) → NonNegative n → n .x +ℤ n .y +ℤ n .z ≡ pos (size n)
 unfolding size
 sum-size n h = ap₂ _+ℤ_ (ap₂ _+ℤ_ (natural _ (h .ofX)) (natural _ (h .ofY))) (natural _ (h .ofZ))
 

@@ -1,5 +1,6 @@
 -- What holds of document 01's definitions on every solid. `Theorems` states it by name; the others are the lemmas.
 pub mod Tests
+pub mod Only
 pub mod Parts
 pub mod Triples
 pub mod Tame
@@ -7,12 +8,8 @@ pub mod Sphere
 pub mod Choosing
 pub mod Says
 pub mod Looks
+pub mod Chosen
 pub mod Powers
-pub mod Walks
 pub mod Frames
 pub mod Ranges
 pub mod Boxes
-pub mod Picks
-pub mod Answers
-pub mod Stacks
-pub mod Theorems

@@ -9,7 +9,7 @@ use Rattle.rules.specs.declared.Triangle.{Triangle}
 use Rattle.rules.specs.declared.Pair.{Pair}
 use Rattle.rules.specs.declared.Pair.the-variants.{P01, P02, P10, P12, P20, P21}
 use Rattle.rules.specs.Vectors.{_⊕_, _⊖_, scale, dot, cross, det}
-use Rattle.rules.specs.Walk.{triangle, first, second, way, with, step, normal}
+use Rattle.rules.specs.Walk.{Axis, axis0, axis1, axis2, triangle, vectorOf, withVector, from, to, first, second, way, with, step, normal}
 use Rattle.laws.specs.Parts.{vector-eq, of2, of3, scale-one}
 
 -- ---- P of each triangle vector, and so of m_k, of m_l and of a triangle with a new m_k
@@ -19,29 +19,24 @@ pub record All (P : Vector → Type 0) (m : Triangle) : Type 0 where
   pub of2 : P (m .m2)
 
 module _ {P : Vector → Type 0} {m : Triangle} (h : All P m) where
+  pub all-of : (k : Axis) → P (vectorOf m k)
+  all-of axis0 = h .of0
+  all-of axis1 = h .of1
+  all-of axis2 = h .of2
+
+  pub all-with-vector : (k : Axis) {a : Vector} → P a → All P (withVector m k a)
+  all-with-vector axis0 p = record { of0 = p; of1 = h .of1; of2 = h .of2 }
+  all-with-vector axis1 p = record { of0 = h .of0; of1 = p; of2 = h .of2 }
+  all-with-vector axis2 p = record { of0 = h .of0; of1 = h .of1; of2 = p }
+
   pub all-first : (x : Pair) → P (first m x)
-  all-first P01 = h .of0
-  all-first P02 = h .of0
-  all-first P10 = h .of1
-  all-first P12 = h .of1
-  all-first P20 = h .of2
-  all-first P21 = h .of2
+  all-first x = all-of (from x)
 
   pub all-second : (x : Pair) → P (second m x)
-  all-second P01 = h .of1
-  all-second P02 = h .of2
-  all-second P10 = h .of0
-  all-second P12 = h .of2
-  all-second P20 = h .of0
-  all-second P21 = h .of1
+  all-second x = all-of (to x)
 
   pub all-with : (x : Pair) {a : Vector} → P a → All P (with m x a)
-  all-with P01 k = record { of0 = k; of1 = h .of1; of2 = h .of2 }
-  all-with P02 k = record { of0 = k; of1 = h .of1; of2 = h .of2 }
-  all-with P10 k = record { of0 = h .of0; of1 = k; of2 = h .of2 }
-  all-with P12 k = record { of0 = h .of0; of1 = k; of2 = h .of2 }
-  all-with P20 k = record { of0 = h .of0; of1 = h .of1; of2 = k }
-  all-with P21 k = record { of0 = h .of0; of1 = h .of1; of2 = k }
+  all-with x p = all-with-vector (from x) p
 
 -- ---- the determinant
 abbrev pub detOf : Triangle → ℤ

@@ -213,9 +213,9 @@ module _ (look : Vector → Look) where
         elim f [
           | true ↦ answered false []
           | false ↦ do
-              g ← asked 0 (falls (lay s e) ls)
-              ensure (not g) (stop 7 (q ⊕ lay s (minus e)) 0)
-              answered true []
+            g ← asked 0 (falls (lay s e) ls)
+            ensure (not g) (stop 7 (q ⊕ lay s (minus e)) 0)
+            answered true []
         ]
 
       -- for axis 0, 1, 2; refusal 7, with the place as for axis 0, if all three are level
