@@ -64,6 +64,9 @@ powers R = powersFrom R 1 R
 pub data Axis : Type 0 where
   axis0 axis1 axis2 : Axis
 
+abbrev pub allAxes : List Axis
+allAxes = axis0 ∷ axis1 ∷ axis2 ∷ []
+
 abbrev pub unit : Axis → Vector
 unit axis0 = unit0
 unit axis1 = unit1
@@ -151,7 +154,7 @@ only test (x ∷ xs) = keep (test x) x (only test xs)
 
 -- the remaining axes
 unfoldable pub remaining : Levels → List Axis
-remaining v = only (λ k. not (level v k)) (axis0 ∷ axis1 ∷ axis2 ∷ [])
+remaining v = only (λ k. not (level v k)) allAxes
 
 -- a level axis takes no part in the pairs
 unfoldable pub takesPart : Levels → Pair → Bool
