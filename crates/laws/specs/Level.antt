@@ -14,6 +14,7 @@ use Rattle.rules.specs.declared.Vector.{Vector}
 use Rattle.rules.specs.declared.Levels.{Levels}
 use Rattle.rules.specs.declared.Triangle.{Triangle}
 use Rattle.rules.specs.declared.Pair.{Pair}
+use Rattle.rules.specs.declared.Pair.the-variants.{P01, P02, P10, P12, P20, P21}
 use Rattle.rules.specs.Vectors.{vector, _⊕_, _⊖_, scale, dot}
 use Rattle.rules.specs.Walk.{Axis, axis0, axis1, axis2, unit, units, vectorOf, withVector, pairs, from, to, first, second, way, step, levels, level, allLevel, keep, only, remaining, takesPart, unlessLevel, levelled, normal}
 use Rattle.laws.specs.Tests.{first-of, second-of}
@@ -48,6 +49,27 @@ some-remain v h = go (allLevel v) h (every-levels (λ v. allLevel v || leb 1 (le
     go : (b : Bool) → T (not b) → T (b || leb 1 (length (remaining v))) → 1 ≤ length (remaining v)
     go true h k = absurd h
     go false h k = leb→le 1 _ k
+
+-- a pair that takes part has two of them
+two : Pair → Levels → Bool
+two x v = not (takesPart v x) || leb 2 (length (remaining v))
+
+two-each : (x : Pair) → T (both (λ a. both (λ b. both (λ c. two x (levels a b c)))))
+unfolding both two remaining takesPart only keep
+two-each P01 = tt
+two-each P02 = tt
+two-each P10 = tt
+two-each P12 = tt
+two-each P20 = tt
+two-each P21 = tt
+
+pub two-remain : (v : Levels) (x : Pair) → T (takesPart v x) → 2 ≤ length (remaining v)
+unfolding two
+two-remain v x t = go (takesPart v x) t (every-levels (two x) (two-each x) v)
+  where
+    go : (b : Bool) → T b → T (not b || leb 2 (length (remaining v))) → 2 ≤ length (remaining v)
+    go true t k = leb→le 2 _ k
+    go false t k = absurd t
 
 -- the lowest remaining axis
 pub lowest : (v : Levels) → T (not (allLevel v)) → (k : Axis) × T (not (level v k))

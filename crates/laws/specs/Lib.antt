@@ -11,7 +11,11 @@ pub mod Choosing
 pub mod Says
 pub mod Looks
 pub mod Chosen
+pub mod Next
+pub mod Axes
 pub mod Powers
+pub mod Walks
 pub mod Frames
 pub mod Ranges
 pub mod Boxes
+pub mod Picks
