@@ -1,6 +1,7 @@
 -- Frames: laying in by signs. Every fact of the walk is proved in frame coordinates; these lemmas carry it into the box and back.
 use mathlib.Core.Path.{_≡_, refl, sym, ap, ap₂, _∙_}
 use mathlib.Core.Logic.{_⊎_, inl, inr}
+use mathlib.Core.Bool.{false}
 use mathlib.Core.List.{[], _∷_}
 use Prim.Native.Nat.{ℕ, zero, suc, _+_, _/_, _%_}
 use native.Mathlib.Omega.{arith}
@@ -11,8 +12,9 @@ use Rattle.integers.specs.Order.{parts, linear, atom, fact}
 use Rattle.integers.specs.Sizes.{product-size}
 use Rattle.rules.specs.declared.Vector.{Vector}
 use Rattle.rules.specs.Vectors.{_⊕_, _⊖_, scale, dot, lay, size}
-use Rattle.rules.specs.Walk.{sign, signs}
-use Rattle.laws.specs.Parts.{Parts, vector-eq, NonNegative, Positive, of3}
+use Rattle.rules.specs.Walk.{sign, signs, Axis}
+use Rattle.laws.specs.Level.{isZero, not-zero}
+use Rattle.laws.specs.Parts.{Parts, part, part-of, part-lay, vector-eq, NonNegative, Positive, of3}
 
 abbrev pub IsSign : ℤ → Type 0
 IsSign z = (z ≡ pos 1) ⊎ (z ≡ negsuc 0)
@@ -72,6 +74,22 @@ lay-sum s a b = vector-eq (gathered (s .x) (a .x) (b .x)) (gathered (s .y) (a .y
 pub sign-size : (s z : ℤ) → IsSign s → natAbs (s *ℤ z) ≡ natAbs z
 sign-size s z (inl e) = product-size s z ∙ rw e (omega arith)
 sign-size s z (inr e) = product-size s z ∙ rw e (omega arith)
+
+-- whether a part is 0 doesn't depend on its sign
+zero-size : (z : ℤ) → isZero z ≡ isZero (pos (natAbs z))
+zero-size (pos zero) = refl
+zero-size (pos (suc k)) = refl
+zero-size (negsuc k) = refl
+
+pub sign-zero : (s z : ℤ) → IsSign s → isZero (s *ℤ z) ≡ isZero z
+sign-zero s z g = zero-size (s *ℤ z) ∙ ap (λ (k : ℕ). isZero (pos k)) (sign-size s z g) ∙ sym (zero-size z)
+
+-- a part that is not 0 and not against the frame is at least 1 in it
+pub lay-part-zero : (s n : Vector) → Signs s → (k : Axis) → isZero (part k (lay s n)) ≡ isZero (part k n)
+lay-part-zero s n g k = ap isZero (part-lay k s n) ∙ sign-zero (part k s) (part k n) (part-of g k)
+
+pub lay-part-high : (s n : Vector) → Signs s → NonNegative (lay s n) → (k : Axis) → isZero (part k n) ≡ false → pos 1 ≤ℤ part k (lay s n)
+lay-part-high s n g h k e = not-zero (part k (lay s n)) (lay-part-zero s n g k ∙ e) (part-of h k)
 
 pub lay-size : (s a : Vector) → Signs s → size (lay s a) ≡ size a
 unfolding size lay

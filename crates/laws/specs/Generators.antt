@@ -9,8 +9,9 @@ use Rattle.integers.specs.Reify.{byring, sides, by-eq}
 use Rattle.rules.specs.declared.Vector.{Vector}
 use Rattle.rules.specs.declared.Levels.{Levels}
 use Rattle.rules.specs.declared.Triangle.{Triangle}
+use Rattle.rules.specs.declared.Pair.the-variants.{P01, P02}
 use Rattle.rules.specs.Vectors.{_⊕_, _⊖_, scale, dot, origin}
-use Rattle.rules.specs.Walk.{Axis, axis0, axis1, axis2, allAxes, vectorOf, level, keep, only, remaining}
+use Rattle.rules.specs.Walk.{Axis, axis0, axis1, axis2, allAxes, vectorOf, way, levels, level, keep, only, remaining}
 use Rattle.laws.specs.Tests.{Each}
 use Rattle.laws.specs.Only.{each-of, each-both, each-map, only-holds}
 use Rattle.laws.specs.Parts.{part, vector-by-parts, part-sum, part-difference, part-scale, part-origin, dot-sum, dot-difference, dot-scale, dot-origin}
@@ -173,3 +174,14 @@ module _ (v : Levels) (n : Vector) (m : Triangle) (p : Products v n m) where
       each-both InFace (map (vectorOf m) (only (level v) allAxes)) (sidesBetween m (remaining v))
       (each-map InFace (vectorOf m) (only (level v) allAxes) (each-of (λ k. T (level v k)) (λ k. InFace (vectorOf m k)) (only (level v) allAxes) (λ k t. p k ∙ is-level (level v k) t) (only-holds (level v) allAxes)))
       (sides-in (remaining v) (each-of (λ k. T (not (level v k))) AtOne (remaining v) (λ k t. p k ∙ is-not (level v k) t) (only-holds (λ k. not (level v k)) allAxes)))
+
+-- ---- with no level axis: the sides from corner 0 are enough
+pub two-sides : (m : Triangle) (v : Vector) → Combines (generators (levels false false false) m) v → (c1 : ℤ) × (c2 : ℤ) × (v ≡ scale c1 (way m P01) ⊕ scale c2 (way m P02))
+unfolding remaining only keep
+two-sides m v h = (h .0 -ℤ h .1 .1 .0, h .1 .0 +ℤ h .1 .1 .0, vector-by-parts along)
+  where
+    along : (k : Axis) → part k v ≡ part k (scale (h .0 -ℤ h .1 .1 .0) (way m P01) ⊕ scale (h .1 .0 +ℤ h .1 .1 .0) (way m P02))
+    along k =
+        simp (part-sum, part-difference, part-scale)
+        (by-eq (pos 1) (simp (part-difference, part-scale, part-origin) at (ap (part k) (h .1 .1 .1)))
+        (byring (h .0 ∷ h .1 .0 ∷ h .1 .1 .0 ∷ part k v ∷ part k (m .m0) ∷ part k (m .m1) ∷ part k (m .m2) ∷ []) (search sides depth 40 fits 5000) tt))

@@ -1,15 +1,17 @@
 -- Level axes, and what every step keeps of them: a level axis's vector is its unit vector, and no other vector has a part along it. So the normal without
 -- its level parts has product 0 with the level vectors and 1 with the others; and a vector with no level parts asks what it asks with 1 for each of them.
 use mathlib.Core.Path.{_≡_, refl, sym, ap, subst, _∙_}
-use mathlib.Core.Bool.{Bool, true, false, not, _&&_, _||_}
+use mathlib.Core.Bool.{Bool, true, false, not, _&&_, _||_, false≢true}
 use mathlib.Core.List.{List, [], _∷_}
-use Prim.Native.Nat.{ℕ, suc, _+_, _-_, _*_, _≤_}
+use Prim.Native.Nat.{ℕ, zero, suc, _+_, _-_, _*_, _≤_}
 use native.Mathlib.Omega.{arith}
 use lib.Dec.{T, T-not, eqb, eqb→eq, leb, leb→le}
-use lib.IntN.{ℤ, pos, _+ℤ_, _-ℤ_, _*ℤ_}
+use lib.IntN.{ℤ, pos, negsuc, _+ℤ_, _-ℤ_, _*ℤ_}
 use lib.ListN.{length}
+use lib.Signed.{_≤ℤ_}
 use Rattle.integers.specs.Laws.{*ℤ-idl}
 use Rattle.integers.specs.Reify.{byring, sides}
+use Rattle.integers.specs.Order.{parts}
 use Rattle.rules.specs.declared.Vector.{Vector}
 use Rattle.rules.specs.declared.Levels.{Levels}
 use Rattle.rules.specs.declared.Triangle.{Triangle}
@@ -70,6 +72,40 @@ two-remain v x t = go (takesPart v x) t (every-levels (two x) (two-each x) v)
     go : (b : Bool) → T b → T (not b || leb 2 (length (remaining v))) → 2 ≤ length (remaining v)
     go true t k = leb→le 2 _ k
     go false t k = absurd t
+
+-- ---- the level axes of a normal: those along which its part is 0
+abbrev pub isZero : ℤ → Bool
+isZero (pos zero) = true
+isZero (pos (suc k)) = false
+isZero (negsuc k) = false
+
+pub is-zero : (z : ℤ) → isZero z ≡ true → z ≡ pos 0
+is-zero (pos zero) e = refl
+is-zero (pos (suc k)) e = absurd (false≢true e)
+is-zero (negsuc k) e = absurd (false≢true e)
+
+pub not-zero : (z : ℤ) → isZero z ≡ false → pos 0 ≤ℤ z → pos 1 ≤ℤ z
+not-zero (pos zero) e h = absurd (false≢true (sym e))
+not-zero (pos (suc k)) e h = omega (arith, parts)
+not-zero (negsuc k) e h = absurd (h .le)
+
+abbrev pub levelsOf : Vector → Levels
+levelsOf n = levels (isZero (n .x)) (isZero (n .y)) (isZero (n .z))
+
+pub levels-of : (n : Vector) (k : Axis) → level (levelsOf n) k ≡ isZero (part k n)
+levels-of n axis0 = refl
+levels-of n axis1 = refl
+levels-of n axis2 = refl
+
+-- the same along each axis
+pub levels-eq : {v w : Levels} → ((k : Axis) → level v k ≡ level w k) → v ≡ w
+levels-eq h = λ i. record { x = h axis0 i; y = h axis1 i; z = h axis2 i }
+
+pub part-levelled : (v : Levels) (n : Vector) (k : Axis) → part k (levelled v n) ≡ unlessLevel (level v k) (part k n)
+unfolding levelled
+part-levelled v n axis0 = refl
+part-levelled v n axis1 = refl
+part-levelled v n axis2 = refl
 
 -- the lowest remaining axis
 pub lowest : (v : Levels) → T (not (allLevel v)) → (k : Axis) × T (not (level v k))

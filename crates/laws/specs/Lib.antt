@@ -19,3 +19,6 @@ pub mod Frames
 pub mod Ranges
 pub mod Boxes
 pub mod Picks
+pub mod Answers
+pub mod Stacks
+pub mod Theorems

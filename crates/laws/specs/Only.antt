@@ -2,11 +2,11 @@
 use mathlib.Core.Path.{_≡_, refl, subst}
 use mathlib.Core.Bool.{Bool, true, false}
 use mathlib.Core.List.{List, [], _∷_, _++_, map}
-use Prim.Native.Nat.{ℕ, suc, _≤_}
-use native.Mathlib.Omega.{arith}
 use lib.Dec.{T}
-use lib.ListN.{length}
-use Rattle.rules.specs.Walk.{keep, only}
+use Rattle.rules.specs.declared.Levels.{Levels}
+use Rattle.rules.specs.declared.Pair.{Pair}
+use Rattle.rules.specs.declared.Pair.the-variants.{P01, P02, P10, P12, P20, P21}
+use Rattle.rules.specs.Walk.{pairs, keep, only, takesPart}
 use Rattle.laws.specs.Tests.{Each}
 
 module _ {A : Type 0} where
@@ -45,3 +45,15 @@ module _ {A : Type 0} where
         go : (b : Bool) → test x ≡ b → Each P (keep b x (only test xs)) → (Each P (only test xs) → Each (λ x. T (test x) → P x) xs) → (T (test x) → P x) × Each (λ x. T (test x) → P x) xs
         go true e h r = (λ _. h .0, r (h .1))
         go false e h r = (λ t. absurd (subst T e t), r h)
+
+-- ---- the pairs
+pub each-pair : (P : Pair → Type 0) → Each P pairs → (x : Pair) → P x
+each-pair P h P01 = h .0
+each-pair P h P02 = h .1 .0
+each-pair P h P10 = h .1 .1 .0
+each-pair P h P12 = h .1 .1 .1 .0
+each-pair P h P20 = h .1 .1 .1 .1 .0
+each-pair P h P21 = h .1 .1 .1 .1 .1 .0
+
+pub each-taking : (P : Pair → Type 0) (v : Levels) → Each P (only (takesPart v) pairs) → (x : Pair) → T (takesPart v x) → P x
+each-taking P v h = each-pair (λ x. T (takesPart v x) → P x) (each-only (takesPart v) P pairs h)

@@ -6,7 +6,7 @@ use lib.Signed.{_≤ℤ_}
 use Rattle.integers.specs.Reify.{byring, sides}
 use Rattle.integers.specs.Laws.{*ℤ-idl}
 use Rattle.rules.specs.declared.Vector.{Vector}
-use Rattle.rules.specs.Vectors.{_⊕_, _⊖_, minus, scale, dot, origin}
+use Rattle.rules.specs.Vectors.{_⊕_, _⊖_, minus, scale, dot, lay, origin}
 use Rattle.rules.specs.Walk.{Axis, axis0, axis1, axis2, unit}
 
 -- the part along an axis
@@ -30,6 +30,18 @@ part-scale axis0 l a = refl
 part-scale axis1 l a = refl
 part-scale axis2 l a = refl
 
+pub part-minus : (k : Axis) (a : Vector) → part k (minus a) ≡ negℤ (part k a)
+unfolding minus
+part-minus axis0 a = refl
+part-minus axis1 a = refl
+part-minus axis2 a = refl
+
+pub part-lay : (k : Axis) (s a : Vector) → part k (lay s a) ≡ part k s *ℤ part k a
+unfolding lay
+part-lay axis0 s a = refl
+part-lay axis1 s a = refl
+part-lay axis2 s a = refl
+
 pub part-origin : (k : Axis) → part k origin ≡ pos 0
 part-origin axis0 = refl
 part-origin axis1 = refl
@@ -51,6 +63,9 @@ pub part-of : {P : ℤ → Type 0} {a : Vector} → Parts P a → (k : Axis) →
 part-of h axis0 = h .ofX
 part-of h axis1 = h .ofY
 part-of h axis2 = h .ofZ
+
+pub parts-by : (P : ℤ → Type 0) (a : Vector) → ((k : Axis) → P (part k a)) → Parts P a
+parts-by P a h = record { ofX = h axis0; ofY = h axis1; ofZ = h axis2 }
 
 pub vector-eq : {a b : Vector} → a .x ≡ b .x → a .y ≡ b .y → a .z ≡ b .z → a ≡ b
 vector-eq p q r = λ i. record { x = p i; y = q i; z = r i }

@@ -2,7 +2,7 @@
 use mathlib.Core.Path.{_≡_, refl, sym, subst, _∙_}
 use mathlib.Core.Bool.{Bool, true, false, not, _||_}
 use mathlib.Core.List.{List, [], _∷_}
-use Prim.Native.Nat.{ℕ, zero, suc, _+_, _*_, _-_, _≤_}
+use Prim.Native.Nat.{ℕ, zero, suc, _+_, _*_, _-_, _≤_, max}
 use native.Mathlib.Nat as NatL
 use native.Mathlib.Omega.{arith}
 use lib.Dec.{T, leb→le}
@@ -166,37 +166,38 @@ module _ (ok : Bool) (look : Vector → Look) (p : Vector) (frame reach : ℤ) w
     pub permittedSolid : T ok
     pub accepting : Accepting look (p ⊕ s) s R f
 
-  abbrev ToldOf : Stop → Type 0
+  abbrev pub ToldOf : Stop → Type 0
   ToldOf = Told look (p ⊕ s) s (powers R) (R - 2)
 
-  -- M is the reach, or 3 where the reach is less
-  module _ (M : ℕ) (reaches : R ≤ M) (three : 3 ≤ M) where
-    abbrev N : ℕ
-    N = 2 + length (powers R) * (6 * M - 9)
+  -- the reach, or 3 where it is less
+  abbrev M : ℕ
+  M = max R 3
 
+  module _ (N : ℕ) (enough : R ≤ 256 → 2 + length (powers R) * (6 * max R 3 - 9) ≤ N) where
     at-once : (number : ℕ) (a : Vector) → (number ≡ 8 → ⊥) → Few N ToldOf (stop number a 0) 0
     at-once number a h = record { holds = refuse look (p ⊕ s) s (powers R) (R - 2) number a h; few = omega arith }
 
-    start-few : 2 + 6 * length (powers R) ≤ N
-    start-few = omega (arith, NatL.mul-comm (length (powers R)) 6, NatL.mul-le-mul-left (length (powers R)) (let h : 6 ≤ 6 * M - 9 = omega arith in h))
+    start-few : R ≤ 256 → 2 + 6 * length (powers R) ≤ N
+    start-few h = let k : 6 ≤ 6 * M - 9 = omega arith in omega (arith, enough h, NatL.mul-comm (length (powers R)) 6, NatL.mul-le-mul-left (length (powers R)) k)
 
-    all-few : (v : Levels) → AxesOf look (p ⊕ s) s (powers R) v → (n l : ℕ) → n + length (remaining v) * length (powers R) ≤ 2 + 6 * length (powers R)
+    all-few : R ≤ 256 → (v : Levels) → AxesOf look (p ⊕ s) s (powers R) v → (n l : ℕ) → n + length (remaining v) * length (powers R) ≤ 2 + 6 * length (powers R)
         → l ≤ suc (R - length (remaining v)) * (length (only (takesPart v) pairs) * length (powers R)) → n + l ≤ N
-    all-few v a n l h k =
+    all-few small v a n l h k =
         let r = length (remaining v) in
-        let most : 6 - r + length (only (takesPart v) pairs) * suc (R - r) ≤ 6 * M - 9 = rw (pairs-taking v) (three-most r R M (some-remain v (a .some)) (at-most-3 v) reaches three) in
-        omega (arith, looks-add-up (length (powers R)) r (length (only (takesPart v) pairs)) (R - r) n l (at-most-3 v) h k, NatL.mul-le-mul-left (length (powers R)) most)
+        let most : 6 - r + length (only (takesPart v) pairs) * suc (R - r) ≤ 6 * M - 9 = rw (pairs-taking v) (three-most r R M (some-remain v (a .some)) (at-most-3 v) (omega arith) (omega arith)) in
+        omega (arith, enough small, looks-add-up (length (powers R)) r (length (only (takesPart v) pairs)) (R - r) n l (at-most-3 v) h k, NatL.mul-le-mul-left (length (powers R)) most)
 
     pub pick-says : Says (Few N Picked) (Few N ToldOf) (pick ok look p frame reach)
     unfolding pick
     pick-says =
         says-ensure _ _ _ (λ _. at-once 1 _ (omega arith)) (λ reached.
+        let small = permitted-reach reach reached .1 in
         says-ensure _ _ _ (λ _. at-once 2 _ (omega arith)) (λ framed.
         says-ensure _ _ _ (λ _. at-once 3 _ (omega arith)) (λ permitted.
         says-ensure _ _ _ (λ _. at-once 4 _ (omega arith)) (λ insideP.
         says-ensure _ _ _ (λ _. at-once 4 _ (omega arith)) (λ insideQ.
-        says-bind _ _ (start-says look p (p ⊕ s) s R (insideP, insideQ)) (λ r n h. fewer (λ l. omega (arith, l, start-few)) h) (λ v n a.
+        says-bind _ _ (start-says look p (p ⊕ s) s R (insideP, insideQ)) (λ r n h. fewer (λ l. omega (arith, l, start-few small)) h) (λ v n a.
         says-weaker _
-        (λ f l h. record { holds = record { permittedReach = reached; permittedFrame = framed; permittedSolid = permitted; accepting = h .holds }; few = all-few v (a .0) n l (a .1) (h .few) })
-        (λ r l h. record { holds = h .holds; few = all-few v (a .0) n l (a .1) (h .few) })
+        (λ f l h. record { holds = record { permittedReach = reached; permittedFrame = framed; permittedSolid = permitted; accepting = h .holds }; few = all-few small v (a .0) n l (a .1) (h .few) })
+        (λ r l h. record { holds = h .holds; few = all-few small v (a .0) n l (a .1) (h .few) })
         (rounds-says look p (p ⊕ s) s R (insideP, insideQ) v (a .0))))))))

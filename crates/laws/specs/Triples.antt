@@ -1,9 +1,9 @@
 -- Triples of whole vectors. A step is a row operation, so the determinant stays 1. The cross products b0 = m1×m2, b1 = m2×m0, b2 = m0×m1 are the
--- inverse's columns: v = Σ (b_k·v) m_k, and their sum, the normal, has product 1 with each m_k. So the sides generate the plane of the normal.
+-- inverse's columns: v = Σ (b_k·v) m_k, and their sum, the normal, has product 1 with each m_k.
 use mathlib.Core.Path.{_≡_, sym, _∙_}
 use mathlib.Core.List.{List, [], _∷_}
-use lib.IntN.{ℤ, pos, _+ℤ_, _-ℤ_, _*ℤ_}
-use Rattle.integers.specs.Reify.{byring, sides, by-eq}
+use lib.IntN.{ℤ, pos, _+ℤ_, _*ℤ_}
+use Rattle.integers.specs.Reify.{byring, sides}
 use Rattle.rules.specs.declared.Vector.{Vector}
 use Rattle.rules.specs.declared.Triangle.{Triangle}
 use Rattle.rules.specs.declared.Pair.{Pair}
@@ -17,6 +17,9 @@ pub record All (P : Vector → Type 0) (m : Triangle) : Type 0 where
   pub of0 : P (m .m0)
   pub of1 : P (m .m1)
   pub of2 : P (m .m2)
+
+pub all-by : {P : Vector → Type 0} {m : Triangle} → ((k : Axis) → P (vectorOf m k)) → All P m
+all-by h = record { of0 = h axis0; of1 = h axis1; of2 = h axis2 }
 
 module _ {P : Vector → Type 0} {m : Triangle} (h : All P m) where
   pub all-of : (k : Axis) → P (vectorOf m k)
@@ -98,27 +101,3 @@ combined-same b a = vector-eq (together a (b .m0 .x) (b .m1 .x) (b .m2 .x)) (tog
 pub equal-products : (n : Vector) (m : Triangle) → detOf m ≡ pos 1 → dot n (m .m1) ≡ dot n (m .m0) → dot n (m .m2) ≡ dot n (m .m0) → n ≡ scale (dot n (m .m0)) (normal m)
 unfolding normal
 equal-products n m d e f = sym (scale-one n) ∙ (rw (d, e, f) at (expand-crosses m n)) ∙ combined-same (crosses m) (dot n (m .m0))
-
--- ---- the sides generate every whole vector of the plane
-normal-parts : (m : Triangle) (v : Vector) → dot (normal m) v ≡ dot (crosses m .m0) v +ℤ dot (crosses m .m1) v +ℤ dot (crosses m .m2) v
-unfolding dot normal _⊕_ cross
-normal-parts m v = byring (of12 m v) (search sides depth 40 fits 5000) tt
-
-leaning : (a b c x y z : ℤ) → a +ℤ b +ℤ c ≡ pos 0 → a *ℤ x +ℤ b *ℤ y +ℤ c *ℤ z ≡ b *ℤ (y -ℤ x) +ℤ c *ℤ (z -ℤ x)
-leaning a b c x y z e = by-eq x e (byring (a ∷ b ∷ c ∷ x ∷ y ∷ z ∷ []) (search sides depth 40 fits 5000) tt)
-
-pub sides-generate : (m : Triangle) (v : Vector) → detOf m ≡ pos 1 → dot (normal m) v ≡ pos 0 → (c1 : ℤ) × (c2 : ℤ) × (v ≡ scale c1 (way m P01) ⊕ scale c2 (way m P02))
-unfolding scale _⊕_ _⊖_
-sides-generate m v d e = (b, c, sym (scale-one v) ∙ (rw d at (expand m v)) ∙ vector-eq (leaning a b c (m .m0 .x) (m .m1 .x) (m .m2 .x) none) (leaning a b c (m .m0 .y) (m .m1 .y) (m .m2 .y) none) (leaning a b c (m .m0 .z) (m .m1 .z) (m .m2 .z) none))
-  where
-    a : ℤ
-    a = dot (crosses m .m0) v
-
-    b : ℤ
-    b = dot (crosses m .m1) v
-
-    c : ℤ
-    c = dot (crosses m .m2) v
-
-    none : a +ℤ b +ℤ c ≡ pos 0
-    none = sym (normal-parts m v) ∙ e

@@ -1,0 +1,134 @@
+-- On a stack no reach above 64 is accepted. A level axis, and the walk's end, looked both ways from q at every power, so at one of at least 128: in a box of
+-- at most 256 a side a vector that stays inside both ways there is zero. No unit vector is, and a triangle with m0 = m1 has determinant 0, not 1.
+use mathlib.Core.Path.{_≡_, refl, sym, ap, subst, _∙_}
+use mathlib.Core.Logic.{inl, inr}
+use mathlib.Core.Bool.{Bool, true, false, not, _&&_}
+use mathlib.Core.List.{List, [], _∷_}
+use Prim.Native.Nat.{ℕ, zero, suc, _*_, _≤_}
+use native.Mathlib.Nat as NatL
+use native.Mathlib.Omega.{arith}
+use lib.Dec.{T, leb, leb→le, nleb→lt}
+use lib.IntN.{ℤ, pos, negsuc, negℤ, natAbs, _+ℤ_, _-ℤ_, _*ℤ_}
+use lib.Signed.{_≤ℤ_}
+use Rattle.integers.specs.Reify.{byring, sides, by-eq}
+use Rattle.integers.specs.Order.{parts, linear, atom, fact}
+use Rattle.integers.specs.Sizes.{Within, sizes, product-size}
+use Rattle.rules.specs.declared.Vector.{Vector}
+use Rattle.rules.specs.declared.Look.{Look}
+use Rattle.rules.specs.declared.Levels.{Levels}
+use Rattle.rules.specs.declared.Stack.{Stack}
+use Rattle.rules.specs.declared.Solid.the-variants.{Stack as IsStack}
+use Rattle.rules.specs.declared.Accepted.{Accepted as AcceptedPick}
+use Rattle.rules.specs.declared.Pick.the-variants.{Accepted}
+use Rattle.rules.specs.declared.Triangle.{Triangle}
+use Rattle.rules.specs.declared.Pair.the-variants.{P01, P10}
+use Rattle.rules.specs.Vectors.{_⊕_, _⊖_, minus, scale, lay, dot, cross, det}
+use Rattle.rules.specs.Walk.{powers, Axis, axis0, axis1, axis2, unit, way, level, takesPart}
+use Rattle.rules.specs.Solids.{look}
+use Rattle.rules.specs.Pick.{isInside, pickOf}
+use Rattle.laws.specs.Tests.{both}
+use Rattle.laws.specs.Only.{each-taking}
+use Rattle.laws.specs.Parts.{part, part-of, vector-by-parts, part-sum, part-difference, part-scale, part-minus, part-lay}
+use Rattle.laws.specs.Triples.{detOf, of9}
+use Rattle.laws.specs.Frames.{IsSign, Signs, signs-are, sign-size}
+use Rattle.laws.specs.Looks.{place, Fell}
+use Rattle.laws.specs.Powers.{Reaches, powers-128}
+use Rattle.laws.specs.Ranges.{Between, InCube}
+use Rattle.laws.specs.Boxes.{stack-cube}
+use Rattle.laws.specs.Axes.{FellAlong, AxesOf}
+use Rattle.laws.specs.Picks.{End, Accepting, permitted-reach}
+use Rattle.laws.specs.Answers.{told-accepted}
+
+-- two ways that did not fall were looked at, at one power of at least M, inside the box
+both-in : (look : Vector → Look) (q u v : Vector) (M : ℕ) (ls : List ℕ) → Reaches M ls → Fell look q u ls false → Fell look q v ls false
+    → (l : ℕ) × (M ≤ l) × T (isInside (look (place look q u l))) × T (isInside (look (place look q v l)))
+unfolding isInside
+both-in look q u v M [] r f g = absurd r
+both-in look q u v M (l ∷ ls) (inl h) f g = (l, h, rw (f .0) tt, rw (g .0) tt)
+both-in look q u v M (l ∷ ls) (inr r) f g = both-in look q u v M ls r (f .1) (g .1)
+
+-- ---- a number that stays in 0 to 255 both ways at such a power is zero
+none-left : (l y : ℕ) → 128 ≤ l → l * y ≤ 127 → y ≡ 0
+none-left l zero h k = refl
+none-left l (suc y) h k = absurd (omega (arith, NatL.mul-suc l y))
+
+no-size : (z : ℤ) → natAbs z ≡ 0 → z ≡ pos 0
+no-size (pos k) e = ap pos e
+no-size (negsuc k) e = absurd (omega arith)
+
+backward : (l q s z : ℤ) → q +ℤ l *ℤ (s *ℤ negℤ z) ≡ q -ℤ l *ℤ (s *ℤ z)
+backward l q s z = byring (l ∷ q ∷ s ∷ z ∷ []) (search sides depth 40 fits 5000) tt
+
+half : (q d : ℤ) → Between 255 (q +ℤ d) → Between 255 (q -ℤ d) → Within 127 d
+half q d h k =
+    let x = atom q in let y = atom d in
+    omega (arith, sizes, fact (search linear) (h .low), fact (search linear) (h .high), fact (search linear) (k .low), fact (search linear) (k .high))
+
+zero-part : (q s z : ℤ) (l : ℕ) → IsSign s → 128 ≤ l → Between 255 (q +ℤ pos l *ℤ (s *ℤ z)) → Between 255 (q +ℤ pos l *ℤ (s *ℤ negℤ z)) → z ≡ pos 0
+zero-part q s z l g h j k =
+    let w = half q (pos l *ℤ (s *ℤ z)) j (rw (backward (pos l) q s z) at k) in
+    no-size z (none-left l (natAbs z) h (rw (← far) (w .size)))
+  where
+    far : natAbs (pos l *ℤ (s *ℤ z)) ≡ l * natAbs z
+    far = product-size (pos l) (s *ℤ z) ∙ ap (λ (y : ℕ). l * y) (sign-size s z g)
+
+-- ---- no unit vector is zero, and two equal vectors have no volume
+unit-one : (k : Axis) → part k (unit k) ≡ pos 1
+unit-one axis0 = refl
+unit-one axis1 = refl
+unit-one axis2 = refl
+
+back : (a b : Vector) → a ⊖ b ≡ minus (b ⊖ a)
+back a b = vector-by-parts (λ k. simp (part-difference, part-minus) (byring (part k a ∷ part k b ∷ []) (search sides depth 40 fits 5000) tt))
+
+equal-flat : (m : Triangle) → ((k : Axis) → part k (m .m1 ⊖ m .m0) ≡ pos 0) → detOf m ≡ pos 0
+unfolding det dot cross _⊖_
+equal-flat m h =
+    by-eq (m .m2 .y *ℤ m .m0 .z -ℤ m .m2 .z *ℤ m .m0 .y) (h axis0)
+    (by-eq (m .m2 .z *ℤ m .m0 .x -ℤ m .m2 .x *ℤ m .m0 .z) (h axis1)
+    (by-eq (m .m2 .x *ℤ m .m0 .y -ℤ m .m2 .y *ℤ m .m0 .x) (h axis2)
+    (byring (of9 m) (search sides depth 40 fits 5000) tt)))
+
+module _ (look : Vector → Look) (box : (p : Vector) → T (isInside (look p)) → InCube 255 p) (q s : Vector) (signed : Signs s) (ls : List ℕ) (far : Reaches 128 ls) where
+  -- a vector that fell neither way
+  still : (u : Vector) → Fell look q (lay s u) ls false → Fell look q (lay s (minus u)) ls false → (k : Axis) → part k u ≡ pos 0
+  still u f g k =
+      let b = both-in look q (lay s u) (lay s (minus u)) 128 ls far f g in
+      zero-part (part k q) (part k s) (part k u) (b .0) (part-of signed k) (b .1) (subst (Between 255) (along u (b .0)) (part-of (box _ (b .2)) k)) (subst (Between 255) (along (minus u) (b .0) ∙ opposite (b .0)) (part-of (box _ (b .3)) k))
+    where
+      along : (u : Vector) (l : ℕ) → part k (place look q (lay s u) l) ≡ part k q +ℤ pos l *ℤ (part k s *ℤ part k u)
+      along u l = simp (part-sum, part-scale, part-lay) refl
+
+      opposite : (l : ℕ) → part k q +ℤ pos l *ℤ (part k s *ℤ part k (minus u)) ≡ part k q +ℤ pos l *ℤ (part k s *ℤ negℤ (part k u))
+      opposite l = ap (λ z. part k q +ℤ pos l *ℤ (part k s *ℤ z)) (part-minus k u)
+
+  no-level : (k : Axis) (b : Bool) → FellAlong look q s ls (unit k) b → T (not b)
+  no-level k false f = tt
+  no-level k true f = let o : pos 1 ≡ pos 0 = sym (unit-one k) ∙ still (unit k) (f .1) (f .0) k in absurd (omega (arith, parts))
+
+  too-far : (v : Levels) (R : ℕ) (e : Triangle × ℕ) → AxesOf look q s ls v → End look q s ls v R e → ⊥
+  unfolding takesPart
+  too-far v R e a h =
+      let m = e .0 in
+      let stood = each-taking (λ x. Fell look q (lay s (way m x)) ls false) v (h .stood) in
+      let x = no-level axis0 (level v axis0) (a .axis axis0 .fell) in
+      let y = no-level axis1 (level v axis1) (a .axis axis1 .fell) in
+      let f = stood P01 (both (not (v .x)) (not (v .y)) x y) in
+      let g = subst (λ u. Fell look q (lay s u) ls false) (back (m .m0) (m .m1)) (stood P10 (both (not (v .y)) (not (v .x)) y x)) in
+      let o : pos 1 ≡ pos 0 = sym (h .tame .unimodular) ∙ equal-flat m (still (way m P01) f g) in
+      omega (arith, parts)
+
+reach-64 : (look : Vector → Look) → ((p : Vector) → T (isInside (look p)) → InCube 255 p) → (q s : Vector) → Signs s → (R : ℕ) (v : Levels) (e : Triangle × ℕ) → AxesOf look q s (powers R) v → End look q s (powers R) v R e → R ≤ 64
+reach-64 look box q s signed R v e a h = go (leb R 64) refl
+  where
+    go : (b : Bool) → leb R 64 ≡ b → R ≤ 64
+    go true k = leb→le R 64 (rw k tt)
+    go false k = absurd (too-far look box q s signed (powers R) (powers-128 R (nleb→lt R 64 (rw k tt))) v R e a h)
+
+pub stack-reach : (stack : Stack) (bytes : List ℕ) (p : Vector) (frame reach : ℤ) (a : AcceptedPick) → pickOf (IsStack stack) bytes p frame reach ≡ Accepted a → reach ≤ℤ pos 64
+stack-reach stack bytes p frame reach a is =
+    let h = told-accepted (IsStack stack) bytes p frame reach a is in
+    let R = permitted-reach reach (h .permittedReach) in
+    let k = h .accepting in
+    let small = reach-64 (look (IsStack stack) bytes) (stack-cube stack bytes (h .permittedSolid)) _ _ (signs-are (natAbs frame)) (natAbs reach) (k .level) (k .at) (k .asked) (k .end) in
+    omega (arith, parts, R .2)

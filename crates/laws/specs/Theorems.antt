@@ -1,0 +1,173 @@
+-- What holds on every solid, wedge or stack, for every pick: the statements. The proofs are in the modules beside.
+use mathlib.Core.Path.{_≡_, ap, subst, _∙_}
+use mathlib.Core.Bool.{false, not}
+use mathlib.Core.List.{List, []}
+use Prim.Native.Nat.{ℕ, _+_, _*_, _-_, _≤_, max}
+use native.Mathlib.Nat as NatL
+use native.Mathlib.Omega.{arith}
+use lib.Dec.{T}
+use lib.ListN.{length}
+use lib.IntN.{ℤ, pos, natAbs, _-ℤ_, _*ℤ_}
+use lib.Signed.{_≤ℤ_}
+use Rattle.rules.specs.declared.Vector.{Vector}
+use Rattle.rules.specs.declared.Solid.{Solid}
+use Rattle.rules.specs.declared.Solid.the-variants.{Stack as IsStack}
+use Rattle.rules.specs.declared.Stack.{Stack}
+use Rattle.rules.specs.declared.Levels.{Levels}
+use Rattle.rules.specs.declared.Triangle.{Triangle}
+use Rattle.rules.specs.declared.Pair.{Pair}
+use Rattle.rules.specs.declared.Pair.the-variants.{P01, P02}
+use Rattle.rules.specs.declared.Choice.the-variants.{Nothing, Chosen}
+use Rattle.rules.specs.declared.Accepted.{Accepted as AcceptedPick}
+use Rattle.rules.specs.declared.Refused.{Refused as RefusedPick}
+use Rattle.rules.specs.declared.Pick.the-variants.{Accepted, Refused}
+use Rattle.rules.specs.Vectors.{_⊕_, scale, dot, lay}
+use Rattle.rules.specs.Solids.{box, inBox, permitted, look}
+use Rattle.rules.specs.Asked.{answered}
+use Rattle.rules.specs.Walk.{signs, powers, Axis, axis0, axis1, axis2, unit, units, vectorOf, pairs, second, way, step, levels, level, keep, only, remaining, takesPart, determinant, inside, choice, isLevel, round}
+use Rattle.rules.specs.Pick.{isInside, pickOf}
+use Rattle.laws.specs.Parts.{NonNegative, Positive, part, parts-by}
+use Rattle.laws.specs.Triples.{All, all-by, detOf, step-det}
+use Rattle.laws.specs.Level as Level
+use Rattle.laws.specs.Level.{weight, isZero, levelsOf, levels-of}
+use Rattle.laws.specs.Generators.{Combines, generators, two-sides}
+use Rattle.laws.specs.Tame.{units-tame}
+use Rattle.laws.specs.Sphere as Sphere
+use Rattle.laws.specs.Choosing as Choosing
+use Rattle.laws.specs.Choosing.{best}
+use Rattle.laws.specs.Frames.{Signs, signs-are, lay-part-high}
+use Rattle.laws.specs.Powers as Powers
+use Rattle.laws.specs.Powers.{UpTo, few-looks}
+use Rattle.laws.specs.Ranges.{Bounded}
+use Rattle.laws.specs.Boxes as Boxes
+use Rattle.laws.specs.Boxes.{outside-box}
+use Rattle.laws.specs.Next.{NextLook}
+use Rattle.laws.specs.Picks.{Accepting}
+use Rattle.laws.specs.Answers.{laid, stepsOf, looksOf, foundOf, stopOf, told-accepted, told-refused, told-steps, told-looks, accepting-determinant, accepting-products, accepting-generated, accepting-signs, accepting-steps, accepting-axes}
+use Rattle.laws.specs.Stacks as Stacks
+
+-- ---- the powers are 1, 2, 4, .. up to the first that is at least R
+pub powers-reach : (R : ℕ) → UpTo R 1 (powers R)
+powers-reach = Powers.powers-reach
+
+-- ---- the triangle's determinant is 1 at the beginning, and every step keeps it
+pub units-determinant : detOf units ≡ pos 1
+units-determinant = units-tame .unimodular
+
+pub step-determinant : (m : Triangle) (x : Pair) → detOf (step m x) ≡ detOf m
+step-determinant = step-det
+
+-- ---- the choice: document 01's determinant is twice a difference, so strictly inside is a smaller m_l·(m_l - m_k)
+pub determinant-is : (m : Triangle) (x y : Pair) → detOf m ≡ pos 1 → determinant m x y ≡ pos 2 *ℤ (dot (second m y) (way m y) -ℤ dot (second m x) (way m x))
+determinant-is = Sphere.determinant-is
+
+-- a pair is always chosen when one falls, and no pair is inside its own sphere
+pub choice-exists : (m : Triangle) → detOf m ≡ pos 1 → (falling : List Pair) → choice m falling ≡ Nothing → falling ≡ []
+choice-exists = Choosing.choice-exists
+
+pub not-inside-itself : (m : Triangle) → detOf m ≡ pos 1 → (x : Pair) → inside m x x ≡ false
+not-inside-itself = Choosing.not-inside-itself
+
+-- the best of the falling pairs, each taken where it is strictly inside the best one's sphere so far, is the choice
+pub best-is-choice : (m : Triangle) → detOf m ≡ pos 1 → (falling : List Pair) → best m Nothing falling ≡ choice m falling
+best-is-choice = Choosing.best-is-choice
+
+-- ---- each part of every triangle vector stays within 1023: it does at the beginning, and if it does before a round, it does after the step that the round chose
+pub units-within : All (Bounded 1023) units
+units-within = Boxes.units-within
+
+pub triangle-within : (solid : Solid) (bytes : List ℕ) (q s : Vector) (R : ℕ) (ps : List Pair) (m : Triangle) (x : Pair) {t : List Vector}
+    → T (permitted solid bytes) → T (isInside (look solid bytes q)) → Signs s → round (look solid bytes) q s (powers R) ps m ≡ answered (Chosen x) t
+    → All (Bounded 1023) m → All (Bounded 1023) (step m x)
+triangle-within = Boxes.triangle-within
+
+-- ---- with r remaining axes r(r - 1) pairs take part
+pub pairs-taking : (v : Levels) → length (only (takesPart v) pairs) ≡ length (remaining v) * (length (remaining v) - 1)
+pairs-taking = Level.pairs-taking
+
+module _ (solid : Solid) (bytes : List ℕ) (p : Vector) (frame reach : ℤ) where
+  abbrev R : ℕ
+  R = natAbs reach
+
+  -- K, the number of powers
+  abbrev K : ℕ
+  K = length (powers (natAbs reach))
+
+  abbrev s : Vector
+  s = signs (natAbs frame)
+
+  abbrev q : Vector
+  q = p ⊕ signs (natAbs frame)
+
+  -- ---- at most R - 2 steps and 2 + K(6R - 9) looks, with 3 for a smaller R, refused or accepted; so at most 13,745
+  pub steps-at-most : stepsOf (pickOf solid bytes p frame reach) ≤ natAbs reach - 2
+  steps-at-most = told-steps solid bytes p frame reach
+
+  pub looks-at-most : looksOf (pickOf solid bytes p frame reach) ≤ 2 + K * (6 * max (natAbs reach) 3 - 9)
+  looks-at-most = told-looks solid bytes p frame reach _ (λ _. NatL.le-refl _)
+
+  pub looks-at-most-from-3 : 3 ≤ natAbs reach → looksOf (pickOf solid bytes p frame reach) ≤ 2 + K * (6 * natAbs reach - 9)
+  looks-at-most-from-3 h = let e : max R 3 ≡ R = omega (arith, h) in rw e at looks-at-most
+
+  pub looks-at-most-13745 : looksOf (pickOf solid bytes p frame reach) ≤ 13745
+  looks-at-most-13745 = told-looks solid bytes p frame reach 13745 (λ h. few-looks R (max R 3) h (omega arith))
+
+  -- ---- an accepted pick
+  module _ (a : AcceptedPick) (is : pickOf solid bytes p frame reach ≡ Accepted a) where
+    abbrev accepting : Accepting (look solid bytes) (p ⊕ signs (natAbs frame)) (signs (natAbs frame)) (natAbs reach) (foundOf a)
+    accepting = told-accepted solid bytes p frame reach a is .accepting
+
+    abbrev signed : Signs (signs (natAbs frame))
+    signed = signs-are (natAbs frame)
+
+    -- an axis is level exactly if the normal's part is 0
+    pub accepted-levels : (k : Axis) → (voxels : List Vector) × (isLevel (look solid bytes) q s (powers (natAbs reach)) (unit k) ≡ answered (level (levelsOf (a .normal)) k) voxels)
+    accepted-levels = accepting-axes accepting signed
+
+    -- the other parts have the frame's sign
+    pub accepted-signs : NonNegative (lay s (a .normal))
+    accepted-signs = accepting-signs accepting signed
+
+    -- steps: at most the reach less the remaining axes
+    pub accepted-steps : a .steps ≤ natAbs reach - length (remaining (levelsOf (a .normal)))
+    accepted-steps = accepting-steps accepting signed
+
+    -- the triangle has determinant 1 in the frame; the normal's product is 0 with the vector of a level axis and 1 with every other
+    pub accepted-determinant : detOf (laid s (a .triangle)) ≡ pos 1
+    accepted-determinant = accepting-determinant accepting signed
+
+    pub accepted-products : (k : Axis) → dot (a .normal) (vectorOf (a .triangle) k) ≡ weight (level (levelsOf (a .normal)) k)
+    accepted-products = accepting-products accepting signed
+
+    -- the level vectors and the sides between the other corners generate every whole vector of the plane
+    pub accepted-generated : (v : Vector) → dot (a .normal) v ≡ pos 0 → Combines (generators (levelsOf (a .normal)) (a .triangle)) v
+    accepted-generated = accepting-generated accepting signed
+
+    -- with no level axis, as document 01 has it
+    module _ (none : (k : Axis) → isZero (part k (a .normal)) ≡ false) where
+      unlevel : levelsOf (a .normal) ≡ levels false false false
+      unlevel = λ i. levels (none axis0 i) (none axis1 i) (none axis2 i)
+
+      pub base-signs : Positive (lay s (a .normal))
+      base-signs = parts-by (λ z. pos 1 ≤ℤ z) (lay s (a .normal)) (λ k. lay-part-high s (a .normal) signed accepted-signs k (none k))
+
+      pub base-steps : a .steps ≤ natAbs reach - 3
+      unfolding remaining only keep
+      base-steps = subst (λ (v : Levels). a .steps ≤ natAbs reach - length (remaining v)) unlevel accepted-steps
+
+      pub base-products : All (λ m. dot (a .normal) m ≡ pos 1) (a .triangle)
+      base-products = all-by (λ k. accepted-products k ∙ ap weight (levels-of (a .normal) k ∙ none k))
+
+      pub base-sides : (v : Vector) → dot (a .normal) v ≡ pos 0 → (c1 : ℤ) × (c2 : ℤ) × (v ≡ scale c1 (way (a .triangle) P01) ⊕ scale c2 (way (a .triangle) P02))
+      base-sides v h = two-sides (a .triangle) v (subst (λ l. Combines (generators l (a .triangle)) v) unlevel (accepted-generated v h))
+
+  -- ---- refusal 8 is given at the voxel that was to be looked at next, and that lies outside the box
+  pub refused-next : (r : RefusedPick) → pickOf solid bytes p frame reach ≡ Refused r → r .number ≡ 8 → NextLook (look solid bytes) q s (powers (natAbs reach)) (stopOf r)
+  refused-next r is e = told-refused solid bytes p frame reach r is .next e
+
+  pub refused-outside : (r : RefusedPick) → pickOf solid bytes p frame reach ≡ Refused r → r .number ≡ 8 → T (not (inBox (box solid) (r .place)))
+  refused-outside r is e = outside-box solid bytes (r .place) (refused-next r is e .outside)
+
+-- ---- on a stack no reach above 64 is accepted
+pub stack-reach : (stack : Stack) (bytes : List ℕ) (p : Vector) (frame reach : ℤ) (a : AcceptedPick) → pickOf (IsStack stack) bytes p frame reach ≡ Accepted a → reach ≤ℤ pos 64
+stack-reach = Stacks.stack-reach
