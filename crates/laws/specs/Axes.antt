@@ -1,8 +1,8 @@
 -- The axes: each was asked downward and, where nothing fell, upward too, so a level axis takes K looks more than one that remains.
 use mathlib.Core.Path.{_≡_, refl}
 use mathlib.Core.Bool.{Bool, true, false, not, _&&_}
-use mathlib.Core.List.{List, [], _∷_}
-use Prim.Native.Nat.{ℕ, suc, _+_, _*_, _≤_}
+use mathlib.Core.List.{List, []}
+use Prim.Native.Nat.{ℕ, _+_, _*_, _≤_}
 use native.Mathlib.Nat as NatL
 use native.Mathlib.Omega.{arith}
 use lib.Dec.{T}
@@ -12,7 +12,8 @@ use Rattle.rules.specs.declared.Look.{Look}
 use Rattle.rules.specs.declared.Levels.{Levels}
 use Rattle.rules.specs.Vectors.{_⊕_, minus, lay}
 use Rattle.rules.specs.Asked.{Asked, answered, refused, _>>=_, _>>_}
-use Rattle.rules.specs.Walk.{Stop, stop, ensure, asked, falls, Axis, axis0, axis1, axis2, unit, levels, level, allLevel, keep, only, remaining, isLevel, axes}
+use Rattle.rules.specs.Walk.{Stop, stop, ensure, asked, falls, Axis, axis0, axis1, axis2, unit, levels, level, allLevel, remaining, isLevel, axes}
+use Rattle.laws.specs.Level.{remains, remaining-count}
 use Rattle.laws.specs.Says.{Says, Few, fewer, says-answer, says-weaker, says-bind, says-asked, says-ensure}
 use Rattle.laws.specs.Looks.{Fell, Beyond, falls-says}
 use Rattle.laws.specs.Next.{Question, downward, opposite, NextLook, next-look}
@@ -22,12 +23,7 @@ abbrev asks : ℕ → Bool → ℕ
 asks K true = K + K
 asks K false = K
 
-remains : Bool → ℕ
-remains true = 0
-remains false = 1
-
 asks-one : (K : ℕ) (b : Bool) → asks K b + remains b * K ≡ 2 * K
-unfolding remains
 asks-one K true = omega arith
 asks-one K false = omega arith
 
@@ -35,16 +31,10 @@ asks-most : (K : ℕ) (b : Bool) → asks K b ≤ K + K
 asks-most K true = omega arith
 asks-most K false = omega arith
 
-keep-length : {A : Type 0} (b : Bool) (x : A) (xs : List A) → length (keep (not b) x xs) ≡ remains b + length xs
-unfolding keep remains
-keep-length true x xs = omega arith
-keep-length false x xs = omega arith
-
 asks-all : (K : ℕ) (v : Levels) → asks K (v .x) + (asks K (v .y) + asks K (v .z)) + length (remaining v) * K ≡ 6 * K
-unfolding remaining only
 asks-all K v =
-    rw (keep-length (v .x) axis0 (keep (not (v .y)) axis1 (keep (not (v .z)) axis2 [])), keep-length (v .y) axis1 (keep (not (v .z)) axis2 []), keep-length (v .z) axis2 [])
-    (omega (arith, asks-one K (v .x), asks-one K (v .y), asks-one K (v .z), NatL.add-mul (remains (v .x)) (remains (v .y) + (remains (v .z) + 0)) K, NatL.add-mul (remains (v .y)) (remains (v .z) + 0) K, NatL.add-mul (remains (v .z)) 0 K))
+    let x = remains (v .x) in let y = remains (v .y) in let z = remains (v .z) in
+    rw (remaining-count v) (omega (arith, asks-one K (v .x), asks-one K (v .y), asks-one K (v .z), NatL.add-mul x (y + z) K, NatL.add-mul y z K))
 
 module _ (look : Vector → Look) (q s : Vector) (ls : List ℕ) where
   abbrev K : ℕ

@@ -35,6 +35,20 @@ every-levels : (test : Levels → Bool) → T (both (λ a. both (λ b. both (λ 
 unfolding both
 every-levels test h v = every (λ c. test (levels (v .x) (v .y) c)) (every (λ b. both (λ c. test (levels (v .x) b c))) (every (λ a. both (λ b. both (λ c. test (levels a b c)))) h (v .x)) (v .y)) (v .z)
 
+-- 1 of an axis that remains
+abbrev pub remains : Bool → ℕ
+remains true = 0
+remains false = 1
+
+keep-length : {A : Type 0} (b : Bool) (x : A) (xs : List A) → length (keep (not b) x xs) ≡ remains b + length xs
+unfolding keep
+keep-length true x xs = omega arith
+keep-length false x xs = omega arith
+
+pub remaining-count : (v : Levels) → length (remaining v) ≡ remains (v .x) + (remains (v .y) + remains (v .z))
+unfolding remaining only
+remaining-count v = omega (arith, keep-length (v .x) axis0 (keep (not (v .y)) axis1 (keep (not (v .z)) axis2 [])), keep-length (v .y) axis1 (keep (not (v .z)) axis2 []), keep-length (v .z) axis2 [])
+
 pub at-most-3 : (v : Levels) → length (remaining v) ≤ 3
 unfolding both remaining only keep
 at-most-3 v = leb→le _ 3 (every-levels (λ v. leb (length (remaining v)) 3) tt v)
@@ -251,7 +265,7 @@ module _ (v : Levels) (m : Triangle) (f : Flat v m) where
     pub raised-dot : (j : Axis) → dot (raised v n) (vectorOf m j) ≡ dot n (vectorOf m j) +ℤ isOne (level v j)
     raised-dot j = raised-along v n (vectorOf m j) (unit j) (part-along j) l ∙ ap (λ z. dot n (vectorOf m j) +ℤ z) (over-unit (λ k. isOne (level v k)) j)
 
-    raised-same : (j : Axis) → T (not (level v j)) → dot (raised v n) (vectorOf m j) ≡ dot n (vectorOf m j)
+    pub raised-same : (j : Axis) → T (not (level v j)) → dot (raised v n) (vectorOf m j) ≡ dot n (vectorOf m j)
     raised-same j r = raised-dot j ∙ rw (no-one (level v j) r) (byring (dot n (vectorOf m j) ∷ []) (search sides depth 40 fits 5000) tt)
 
     -- so the pairs that take part ask the same

