@@ -121,7 +121,13 @@ part-levelled v n axis0 = refl
 part-levelled v n axis1 = refl
 part-levelled v n axis2 = refl
 
--- the lowest remaining axis
+-- ---- where all are level, each is; else there is a lowest that remains
+pub all-level : (v : Levels) → T (allLevel v) → (k : Axis) → T (level v k)
+unfolding allLevel
+all-level v h axis0 = first-of (v .x) (v .y && v .z) h
+all-level v h axis1 = first-of (v .y) (v .z) (second-of (v .x) (v .y && v .z) h)
+all-level v h axis2 = second-of (v .y) (v .z) (second-of (v .x) (v .y && v .z) h)
+
 pub lowest : (v : Levels) → T (not (allLevel v)) → (k : Axis) × T (not (level v k))
 unfolding allLevel
 lowest v h = go (v .x) (v .y) (v .z) refl refl refl h

@@ -20,6 +20,10 @@ module _ {A : Type 0} where
   each-of P Q [] f h = tt
   each-of P Q (x ∷ xs) f h = (f x (h .0), each-of P Q xs f (h .1))
 
+  pub each-both-of : (P Q S : A → Type 0) (xs : List A) → ((x : A) → P x → Q x → S x) → Each P xs → Each Q xs → Each S xs
+  each-both-of P Q S [] f h k = tt
+  each-both-of P Q S (x ∷ xs) f h k = (f x (h .0) (k .0), each-both-of P Q S xs f (h .1) (k .1))
+
   pub each-both : (P : A → Type 0) (xs ys : List A) → Each P xs → Each P ys → Each P (xs ++ ys)
   each-both P [] ys h k = k
   each-both P (x ∷ xs) ys h k = (h .0, each-both P xs ys (h .1) k)
