@@ -5,8 +5,8 @@ use crate::chance::Chance;
 use crate::wedge_lines::{line, line_of, near_walls, normals};
 use second::point::{dot, lay, plus, signs};
 
-/// How many normals there are whose parts add to at most 15.
-pub const SMALL_NORMALS: u64 = 409;
+/// How many normals there are whose parts, from 0 on, add to at most 15.
+pub const SMALL_NORMALS: u64 = 625;
 
 /// One small normal: every level, every frame, reach w and above, in the middle and by a wall.
 pub fn levels(chance: &mut Chance, index: u64) -> Vec<Call> {

@@ -158,7 +158,7 @@ pub const STACKS: &[StackCase] = &[
     slope_case([1, 1, 1, 384], 65, "R 8 0 256 128 0 12"),
     slope_case([0, 0, 1, 128], 64, "N 0 0 1 0 31"),
     slope_case([0, 0, 1, 128], 65, "R 8 256 128 128 0 17"),
-    // p alone; with the voxel that q's opposite on axis 0 falls to; with one axis level.
+    // p alone filled; beside it the voxel opposite on axis 0; two on the other axes instead.
     few_case(&[[3, 3, 3]], 1, "R 7 3 4 4 0 8"),
     few_case(&[[3, 3, 3]], 2, "R 7 3 4 4 0 14"),
     few_case(&[[3, 3, 3]], 3, "R 8 8 4 4 0 7"),
