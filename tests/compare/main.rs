@@ -56,7 +56,7 @@ const fn kind(name: &'static str, cases: u64, make: Make, meets: &'static str) -
 
 const KINDS: &[Kind] = &[
     kind("listed", 1, Calls(listed::calls), "0 1 2 3 4 5 6 7 8 9 10 21 22 23 24 25 27 30"),
-    kind("wedge_levels", wedges::SMALL_NORMALS, Calls(wedges::levels), "0 4 8 level1 level2"),
+    kind("wedge_heights", wedges::SMALL_NORMALS, Calls(wedges::heights), "0 4 8 level1 level2"),
     kind("wedge", 600_000, Calls(wedges::any), "0 1 2 3 4 5 6 7 8 9 10 level1 level2"),
     kind("stack", 80_000, Calls(stacks::any), "0 1 2 3 4 5 6 7 8 9 10 level1 level2"),
     kind("stack_unforeseen", 100_000, Calls(stacks::unforeseen), "0 7 8 9 10 level1 level2"),

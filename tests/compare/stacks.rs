@@ -2,7 +2,7 @@
 
 use crate::call::{Call, OnStack};
 use crate::chance::Chance;
-use crate::wedge_lines::{frame, level, normal_in_frame, reach};
+use crate::wedge_lines::{frame, height, normal_in_frame, reach};
 use second::pick::pick;
 use second::point::{dot, lay, minus, plus, signs, times, Point, UNITS};
 use second::solid::{Sizes, Solid};
@@ -80,11 +80,11 @@ fn start(chance: &mut Chance, sides: Point) -> Point {
     })
 }
 
-/// A slope at some level of q, then perhaps some voxels turned over.
+/// A slope with q at some height, then perhaps some voxels turned over.
 fn slope(chance: &mut Chance, sides: Point, start: Point, signs: Point, reach: i64) -> Block {
     let parts = normal_in_frame(chance, reach);
     let normal = lay(signs, parts);
-    let h = dot(normal, plus(start, signs)) - level(chance, parts.iter().sum());
+    let h = dot(normal, plus(start, signs)) - height(chance, parts.iter().sum());
     let mut block = Block::of(chance, sides, |point| dot(normal, point) < h);
     if chance.percent(30) {
         let most = chance.one_of(&[1, 5, 50]);

@@ -2,10 +2,10 @@
 //! normals can be accepted anywhere. Prints the tables of docs/LIMITS.md.
 //!
 //! All normals have no part below 0 and no common divisor (frame 0; the other frames are its
-//! mirror images). They are counted by how many axes are level. Only level e = 0 of q above the
-//! plane is walked: from there each vector that falls does so at power 1, and every other is
-//! looked at at all powers whatever e is, so any other e looks at those points and more. For the
-//! small reaches that is checked by walking every e.
+//! mirror images). They are counted by how many axes are level. Only height 0 of q above the plane
+//! is walked: from there each vector that falls does so at power 1, and every other is looked at
+//! at all powers whatever the height, so any other height looks at those points and more. For the
+//! small reaches that is checked by walking every height.
 
 #[path = "../shared/roomy.rs"]
 mod roomy;
@@ -17,8 +17,8 @@ use second::solid::{Solid, Stack, Wedge, WEDGE_SIDE};
 
 const REACHES: [i64; 6] = [8, 16, 32, 64, 128, 256];
 const STACK_SIDE: i64 = 256;
-/// Up to here every level is walked too.
-const EVERY_LEVEL_TO: i64 = 32;
+/// Up to here every height is walked too.
+const EVERY_HEIGHT_TO: i64 = 32;
 
 fn main() {
     for (name, side) in [("Wedge (box 1024)", WEDGE_SIDE), ("Stack (box 256)", STACK_SIDE)] {
@@ -97,19 +97,19 @@ fn for_each_normal(most: i64, level_axes: usize, mut each: impl FnMut(Point)) {
 
 const START: Point = [-1, -1, -1];
 
-/// The walk of a slope whose q is the origin, this level above the plane.
-fn walk(normal: Point, level: i64, reach: i64, side: i64) -> (Pick, Point) {
-    let solid = Roomy::new(side, START, |point| dot(normal, point) + level < 0);
+/// The walk of a slope whose q is the origin, this height above the plane.
+fn walk(normal: Point, height: i64, reach: i64, side: i64) -> (Pick, Point) {
+    let solid = Roomy::new(side, START, |point| dot(normal, point) + height < 0);
     let answer = pick(&solid, START, 0, reach);
     (answer, solid.shift())
 }
 
 fn somewhere(normal: Point, reach: i64, side: i64) -> bool {
     let (answer, shift) = walk(normal, 0, reach, side);
-    if reach <= EVERY_LEVEL_TO {
+    if reach <= EVERY_HEIGHT_TO {
         let w = normal.iter().sum();
-        let other = (1..w).any(|level| walk(normal, level, reach, side).0.is_ok());
-        assert!(answer.is_ok() || !other, "{normal:?} is accepted at another level alone");
+        let other = (1..w).any(|height| walk(normal, height, reach, side).0.is_ok());
+        assert!(answer.is_ok() || !other, "{normal:?} is accepted at another height alone");
     }
     match answer {
         Ok(record) => {

@@ -101,8 +101,8 @@ pub fn normal_in_frame(chance: &mut Chance, reach: i64) -> Point {
     parts.map(|part| factor * part)
 }
 
-/// A level of q above the plane: 0 to w - 1 if p is to be filled and q empty.
-pub fn level(chance: &mut Chance, w: i64) -> i64 {
+/// A height of q above the plane: 0 to w - 1 if p is to be filled and q empty.
+pub fn height(chance: &mut Chance, w: i64) -> i64 {
     match chance.below(20) {
         0 => chance.between(-w - 2, -1),
         1 => w + chance.between(0, 2),
@@ -127,8 +127,8 @@ fn slope(chance: &mut Chance) -> Line {
     let frame = frame(chance);
     let start = start(chance);
     let normal = lay(signs(frame & 7), parts);
-    let level = level(chance, parts.iter().sum());
-    let h = dot(normal, plus(start, signs(frame & 7))) - level;
+    let height = height(chance, parts.iter().sum());
+    let h = dot(normal, plus(start, signs(frame & 7))) - height;
     let seen_from = if chance.percent(5) { chance.between(0, 7) } else { frame };
     line_of(normal, h, start, seen_from, reach)
 }
