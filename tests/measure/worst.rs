@@ -24,6 +24,7 @@ fn slope_looks((normal, height, reach): Slope, side: i64) -> (u32, Point) {
     (looks(pick(&solid, START, 0, reach)), solid.shift())
 }
 
+/// No axis is level: a level one takes no part in the pairs, so there are fewer looks.
 fn any_slope(chance: &mut Chance) -> Slope {
     let most = chance.one_of(&[20, 60, 200, 1000]);
     let normal = [0, 1, 2].map(|_| chance.between(1, most));
