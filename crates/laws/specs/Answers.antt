@@ -5,9 +5,8 @@ use mathlib.Core.List.{List}
 use Prim.Native.Nat.{ℕ, zero, suc, _+_, _*_, _-_, _≤_, max}
 use native.Mathlib.Nat as NatL
 use native.Mathlib.Omega.{arith}
-use lib.Dec.{T}
 use lib.ListN.{length}
-use lib.IntN.{ℤ, pos, negsuc, natAbs, _*ℤ_}
+use lib.IntN.{ℤ, pos, negsuc, natAbs}
 use lib.Signed.{_≤ℤ_}
 use Rattle.integers.specs.Order.{parts}
 use Rattle.rules.specs.declared.Vector.{Vector}
@@ -22,16 +21,16 @@ use Rattle.rules.specs.declared.Pick.the-variants.{Accepted, Refused}
 use Rattle.rules.specs.Vectors.{_⊕_, scale, dot, lay}
 use Rattle.rules.specs.Asked.{Asked, answered, refused}
 use Rattle.rules.specs.Solids.{permitted, look}
-use Rattle.rules.specs.Walk.{Stop, stop, signs, powers, Axis, axis0, axis1, axis2, unit, triangle, vectorOf, level, remaining, unlessLevel, levelled, normal, isLevel, Found, found}
+use Rattle.rules.specs.Walk.{Stop, stop, powers, Axis, axis0, axis1, axis2, unit, triangle, vectorOf, level, remaining, unlessLevel, levelled, normal, isLevel, Found, found}
 use Rattle.rules.specs.Pick.{pick, answer, pickOf}
 use Rattle.laws.specs.Parts.{NonNegative, part, part-of, parts-by, scale-one}
 use Rattle.laws.specs.Triples.{detOf, crosses, combined, expand}
-use Rattle.laws.specs.Level.{Flat, weight, isZero, levelsOf, levels-of, levels-eq, part-levelled, levelled-dot}
+use Rattle.laws.specs.Level.{Flat, isZero, levelsOf, levels-of, levels-eq, part-levelled, levelled-dot}
 use Rattle.laws.specs.Generators.{Combines, generators, Products, face-generated}
 use Rattle.laws.specs.Tame.{tame-normal}
 use Rattle.laws.specs.Says.{Says, Few}
 use Rattle.laws.specs.Frames.{Signs, lay-lay, lay-dot, lay-scale, lay-sum, lay-part-zero}
-use Rattle.laws.specs.Picks.{Told, Accepting, Picked, ToldOf, pick-says}
+use Rattle.laws.specs.Picks.{Accepting, Picked, ToldOf, pick-says}
 
 -- a triangle laid into the box, or back out of it
 abbrev pub laid : Vector → Triangle → Triangle

@@ -20,7 +20,7 @@ use Rattle.rules.specs.declared.Pair.the-variants.{P01, P02, P10, P12, P20, P21
 use Rattle.rules.specs.Vectors.{vector, _⊕_, _⊖_, scale, dot}
 use Rattle.rules.specs.Walk.{Axis, axis0, axis1, axis2, unit, units, vectorOf, withVector, pairs, from, to, first, second, way, step, levels, level, allLevel, keep, only, remaining, takesPart, unlessLevel, levelled, normal}
 use Rattle.laws.specs.Tests.{first-of, second-of}
-use Rattle.laws.specs.Parts.{part, vector-by-parts, part-difference, vector-eq, of2, dot-difference, dot-unit, scale-one}
+use Rattle.laws.specs.Parts.{part, part-difference, vector-eq, of2, dot-difference, dot-unit, scale-one}
 use Rattle.laws.specs.Triples.{all-of, detOf, normal-dot, crosses, combined, expand-crosses}
 
 -- ---- how many axes remain, and how many pairs take part: tests over all flags

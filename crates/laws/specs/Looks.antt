@@ -2,12 +2,11 @@
 -- a round asked so of each pair; a question that was refused was refused at the voxel that was to be looked at next, which lies outside.
 use mathlib.Core.Path.{_≡_, refl}
 use mathlib.Core.Logic.{_⊎_, inl, inr}
-use mathlib.Core.Bool.{Bool, true, false, not, _&&_}
+use mathlib.Core.Bool.{Bool, true, false}
 use mathlib.Core.List.{List, [], _∷_}
-use Prim.Native.Nat.{ℕ, _+_, _*_, _≤_}
+use Prim.Native.Nat.{ℕ, _*_}
 use native.Mathlib.Nat as NatL
 use native.Mathlib.Omega.{arith}
-use lib.Dec.{T}
 use lib.ListN.{length}
 use lib.IntN.{pos}
 use Rattle.rules.specs.declared.Vector.{Vector}
@@ -16,11 +15,11 @@ use Rattle.rules.specs.declared.Look.the-variants.{Filled, Empty, Outside}
 use Rattle.rules.specs.declared.Triangle.{Triangle}
 use Rattle.rules.specs.declared.Pair.{Pair}
 use Rattle.rules.specs.declared.Choice.{Choice}
-use Rattle.rules.specs.Vectors.{_⊕_, scale, minus, lay}
+use Rattle.rules.specs.Vectors.{_⊕_, scale, lay}
 use Rattle.rules.specs.Asked.{answered, _>>=_}
-use Rattle.rules.specs.Walk.{Stop, stop, ensure, asked, seen, lookAt, falls, isLevel, falling, round, way, keep, choice}
+use Rattle.rules.specs.Walk.{seen, lookAt, falls, falling, round, way, keep, choice}
 use Rattle.laws.specs.Tests.{In}
-use Rattle.laws.specs.Says.{Says, Few, fewer, says-answer, says-weaker, says-bind, few-bind, few-fewer, says-map, says-asked, says-ensure}
+use Rattle.laws.specs.Says.{Says, Few, says-answer, says-weaker, few-bind, few-fewer, says-map}
 
 abbrev pub As : Bool → Look
 As true = Filled

@@ -1,6 +1,6 @@
 -- Every pick on every look, by the rules: what its end found, what a refusal tells, and how many looks it takes.
 use mathlib.Core.Path.{_≡_, refl, sym, subst, _∙_}
-use mathlib.Core.Bool.{Bool, true, false, not, _||_}
+use mathlib.Core.Bool.{Bool, true, false, not}
 use mathlib.Core.List.{List, [], _∷_}
 use Prim.Native.Nat.{ℕ, zero, suc, _+_, _*_, _-_, _≤_, max}
 use native.Mathlib.Nat as NatL
@@ -12,20 +12,19 @@ use lib.Signed.{_≤ℤ_}
 use Rattle.integers.specs.Order.{parts}
 use Rattle.rules.specs.declared.Vector.{Vector}
 use Rattle.rules.specs.declared.Look.{Look}
-use Rattle.rules.specs.declared.Look.the-variants.{Filled, Empty, Outside}
 use Rattle.rules.specs.declared.Levels.{Levels}
 use Rattle.rules.specs.declared.Triangle.{Triangle}
 use Rattle.rules.specs.declared.Pair.{Pair}
-use Rattle.rules.specs.Vectors.{_⊕_, minus, lay, size}
+use Rattle.rules.specs.Vectors.{_⊕_, lay, size}
 use Rattle.rules.specs.Solids.{between}
-use Rattle.rules.specs.Walk.{Stop, stop, signs, powers, Axis, axis0, unit, units, way, step, pairs, normal, keep, only, remaining, takesPart, levelled, Found, found, start, rounds}
+use Rattle.rules.specs.Walk.{Stop, stop, signs, powers, Axis, units, way, pairs, normal, keep, only, remaining, takesPart, levelled, Found, found, start, rounds}
 use Rattle.rules.specs.Pick.{isInside, pick}
 use Rattle.laws.specs.Tests.{Each}
 use Rattle.laws.specs.Tame.{Tame, units-tame, step-tame}
 use Rattle.laws.specs.Level.{Flat, units-flat, step-flat, at-most-3, pairs-taking, some-remain, two-remain}
 use Rattle.laws.specs.Choosing.{choice-exists}
 use Rattle.laws.specs.Says.{Says, Few, fewer, says-answer, says-weaker, says-bind, few-bind, few-fewer, says-asked, says-ensure}
-use Rattle.laws.specs.Looks.{IsOutside, Fell, FellOf, BeyondOf, RoundOf, look-says}
+use Rattle.laws.specs.Looks.{IsOutside, Fell, FellOf, look-says}
 use Rattle.laws.specs.Chosen.{chosen-only}
 use Rattle.laws.specs.Next.{Reached, sideways, NextLook, next-look}
 use Rattle.laws.specs.Axes.{AxesOf, AxisRule, axes-says}

@@ -1,6 +1,6 @@
 -- What a question says: Q of its answer and F of its refusal, each with the number of its looks. One rule for each way to build a question,
 -- so that a theorem about the walk follows the walk's own text.
-use mathlib.Core.Path.{_≡_, sym, subst}
+use mathlib.Core.Path.{_≡_, subst}
 use mathlib.Core.Bool.{Bool, true, false, not}
 use mathlib.Core.List.{List, []}
 use Prim.Native.Nat.{ℕ, _+_, _≤_}

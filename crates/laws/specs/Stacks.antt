@@ -2,7 +2,7 @@
 -- at most 256 a side a vector that stays inside both ways there is zero. No unit vector is, and a triangle with m0 = m1 has determinant 0, not 1.
 use mathlib.Core.Path.{_≡_, refl, sym, ap, subst, _∙_}
 use mathlib.Core.Logic.{inl, inr}
-use mathlib.Core.Bool.{Bool, true, false, not, _&&_}
+use mathlib.Core.Bool.{Bool, true, false, not}
 use mathlib.Core.List.{List, [], _∷_}
 use Prim.Native.Nat.{ℕ, zero, suc, _*_, _≤_}
 use native.Mathlib.Nat as NatL
@@ -22,7 +22,7 @@ use Rattle.rules.specs.declared.Accepted.{Accepted as AcceptedPick}
 use Rattle.rules.specs.declared.Pick.the-variants.{Accepted}
 use Rattle.rules.specs.declared.Triangle.{Triangle}
 use Rattle.rules.specs.declared.Pair.the-variants.{P01, P10}
-use Rattle.rules.specs.Vectors.{_⊕_, _⊖_, minus, scale, lay, dot, cross, det}
+use Rattle.rules.specs.Vectors.{_⊖_, minus, lay, dot, cross, det}
 use Rattle.rules.specs.Walk.{powers, Axis, axis0, axis1, axis2, unit, way, level, takesPart}
 use Rattle.rules.specs.Solids.{look}
 use Rattle.rules.specs.Pick.{isInside, pickOf}
@@ -36,7 +36,7 @@ use Rattle.laws.specs.Powers.{Reaches, powers-128}
 use Rattle.laws.specs.Ranges.{Between, InCube}
 use Rattle.laws.specs.Boxes.{stack-cube}
 use Rattle.laws.specs.Axes.{FellAlong, AxesOf}
-use Rattle.laws.specs.Picks.{End, Accepting, permitted-reach}
+use Rattle.laws.specs.Picks.{End, permitted-reach}
 use Rattle.laws.specs.Answers.{told-accepted}
 
 -- two ways that did not fall were looked at, at one power of at least M, inside the box

@@ -9,7 +9,7 @@ use Rattle.rules.specs.declared.Triangle.{Triangle}
 use Rattle.rules.specs.declared.Pair.{Pair}
 use Rattle.rules.specs.declared.Pair.the-variants.{P01, P02, P10, P12, P20, P21}
 use Rattle.rules.specs.Vectors.{_⊕_, _⊖_, scale, dot, cross, det}
-use Rattle.rules.specs.Walk.{Axis, axis0, axis1, axis2, triangle, vectorOf, withVector, from, to, first, second, way, with, step, normal}
+use Rattle.rules.specs.Walk.{Axis, axis0, axis1, axis2, triangle, vectorOf, withVector, from, to, first, second, with, step, normal}
 use Rattle.laws.specs.Parts.{vector-eq, of2, of3, scale-one}
 
 -- ---- P of each triangle vector, and so of m_k, of m_l and of a triangle with a new m_k

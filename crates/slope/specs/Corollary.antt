@@ -27,7 +27,7 @@ use Rattle.laws.specs.Frames.{signs-are, lay-lay, lay-part-zero, same-frame}
 use Rattle.laws.specs.Boxes.{between-yes}
 use Rattle.laws.specs.Theorems.{base-products}
 use Rattle.slope.specs.Demands as Demands
-use Rattle.slope.specs.Demands.{Inputs, signsOf, powersOf, pickAt, remainingOf, ofWedge, AcceptedWith, Same}
+use Rattle.slope.specs.Demands.{Inputs, signsOf, powersOf, pickAt, remainingOf, ofWedge, AcceptedWith}
 use Rattle.slope.specs.Base as Base
 use Rattle.slope.specs.Base.{Permitted, Direction, OnSlope, OnWedge, Demanded, Demand3}
 use Rattle.slope.specs.Picks.{few}

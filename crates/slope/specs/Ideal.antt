@@ -1,7 +1,7 @@
 -- The ideal walk: the walk of a vector n alone, with no solid, where a pair that takes part falls exactly if n·(m_l - m_k) < 0. Each height n·m_k stays at least 1
 -- and a step lowers their sum by at least 1, so from a sum of 3 + r there are at most r steps; it ends where no pair falls.
 use mathlib.Core.Path.{_≡_, refl, _∙_}
-use mathlib.Core.Bool.{Bool, true, false}
+use mathlib.Core.Bool.{Bool, false}
 use mathlib.Core.List.{List, [], _∷_}
 use Prim.Native.Nat.{ℕ, zero, suc, _+_, _≤_}
 use native.Mathlib.Omega.{arith}
@@ -18,7 +18,6 @@ use Rattle.rules.specs.declared.Choice.{Choice}
 use Rattle.rules.specs.declared.Choice.the-variants.{Nothing, Chosen}
 use Rattle.rules.specs.Vectors.{_⊖_, dot}
 use Rattle.rules.specs.Walk.{Axis, axis0, axis1, axis2, vectorOf, withVector, pairs, from, first, second, way, step, choice, only, takesPart}
-use Rattle.laws.specs.Tests.{Each}
 use Rattle.laws.specs.Only.{each-both-of, only-holds, only-each, only-none, each-taking}
 use Rattle.laws.specs.Parts.{dot-difference}
 use Rattle.laws.specs.Triples.{All, all-first, all-second, all-with, detOf, step-det}

@@ -1,36 +1,31 @@
 -- A pick on a slope is the ideal walk of its normal, laid in, or it is refused with 8 at the voxel that was to be looked at next. An axis is level exactly if n has no
 -- part along it. The heights of the remaining axes end equal, so the normal found is n (it has no common divisor), and no refusal 10 is left; refusal 7 would need a part against the frame.
 use mathlib.Core.Path.{_≡_, refl, sym, ap, subst, _∙_}
-use mathlib.Core.Logic.{_⊎_, inl, inr}
 use mathlib.Core.Bool.{Bool, true, false, not, false≢true}
-use mathlib.Core.List.{List, []}
+use mathlib.Core.List.{[]}
 use Prim.Native.Nat.{ℕ, zero, suc, _+_, _*_, _-_, _≤_}
 use native.Mathlib.Omega.{arith}
 use lib.Dec.{T, T-not, leb, le→leb}
 use lib.ListN.{length}
-use lib.IntN.{ℤ, pos, negsuc, negℤ, natAbs, _+ℤ_, _*ℤ_}
+use lib.IntN.{ℤ, pos, negsuc, negℤ, natAbs, _+ℤ_}
 use lib.Signed.{_≤ℤ_, _<ℤ_, ltZ, ltZ-yes, ltZ-no}
-use Rattle.integers.specs.Reify.{byring, sides}
 use Rattle.integers.specs.Order.{parts, linear, atom, goal, fact}
 use Rattle.rules.specs.declared.Vector.{Vector}
 use Rattle.rules.specs.declared.Look.{Look}
 use Rattle.rules.specs.declared.Look.the-variants.{Filled, Empty}
 use Rattle.rules.specs.declared.Levels.{Levels}
 use Rattle.rules.specs.declared.Triangle.{Triangle}
-use Rattle.rules.specs.declared.Pair.{Pair}
-use Rattle.rules.specs.declared.Pair.the-variants.{P01, P02, P10, P12, P20, P21}
-use Rattle.rules.specs.Vectors.{_⊕_, _⊖_, minus, scale, dot, cross, det, lay, size}
+use Rattle.rules.specs.Vectors.{minus, dot, cross, det, lay, size}
 use Rattle.rules.specs.Asked.{Asked, answered, _>>_}
 use Rattle.rules.specs.Solids.{permitted, look}
-use Rattle.rules.specs.Walk.{Stop, stop, ensure, powers, Axis, axis0, axis1, axis2, unit, units, vectorOf, pairs, from, to, first, second, way, level, allLevel, only, remaining, takesPart, levelled, normal, Found, found, start, rounds}
+use Rattle.rules.specs.Walk.{Stop, stop, ensure, powers, Axis, axis0, axis1, axis2, unit, units, pairs, level, allLevel, only, remaining, takesPart, levelled, normal, found, start, rounds}
 use Rattle.rules.specs.Pick.{isInside, pick}
 use Rattle.laws.specs.Tests.{is-false, not-less}
 use Rattle.laws.specs.Parts.{part, part-of, part-origin, vector-by-parts, dot-minus, dot-unit}
 use Rattle.laws.specs.Level.{remains, remaining-count, at-most-3, pairs-taking, isZero, is-zero, not-zero, levelsOf, levels-of, levels-eq, all-level, lowest, units-flat, raise, raised, Lies}
-use Rattle.laws.specs.Frames.{Signs, signs-are, lay-lay, lay-scale, dot-apex, lay-size, sum-size, lay-part-zero, lay-part-high}
+use Rattle.laws.specs.Frames.{Signs, signs-are, lay-lay, lay-scale, dot-apex, lay-size, sum-size, lay-part-zero}
 use Rattle.laws.specs.Says.{Says, Few, says-answer, says-weaker, says-bind, few-bind, few-fewer, says-asked, says-ensure}
 use Rattle.laws.specs.Looks.{As, IsOutside, Fell, look-says}
-use Rattle.laws.specs.Next.{NextLook}
 use Rattle.laws.specs.Axes.{FellAlong, AxisOf, AxesOf, AxisRule, axes-says}
 use Rattle.laws.specs.Powers.{Reaches, powers-reach, up-to-reaches, looks-add-up}
 use Rattle.laws.specs.Walks.{walk-says}
@@ -40,7 +35,7 @@ use Rattle.slope.specs.Demands.{Inputs, signsOf, apexOf, powersOf, remai
 use Rattle.slope.specs.Falls.{Near}
 use Rattle.slope.specs.Ideal.{ideal, Upright, heights, Even, ideal-even}
 use Rattle.slope.specs.Ends.{at-least-1, multiple, is-normal}
-use Rattle.slope.specs.Rounds.{Edge, fell-lay, Kept, slope-walk}
+use Rattle.slope.specs.Rounds.{Edge, fell-lay, slope-walk}
 
 -- ---- numbers
 -- minus a part that is not below 0 is below 0 exactly if it is not 0

@@ -1,12 +1,9 @@
 -- Demand 3 is proved: each sentence is read off the ideal walk, which an accepted pick on a slope equals.
 use mathlib.Core.Path.{_≡_, refl, sym, ap, subst, _∙_}
-use mathlib.Core.Bool.{not}
-use mathlib.Core.List.{List}
 use Prim.Native.Nat.{ℕ, zero, suc, _+_, _*_, _-_, _≤_}
 use native.Mathlib.Nat as NatL
 use native.Mathlib.Omega.{arith}
 use lib.Dec.{T}
-use lib.ListN.{length}
 use lib.IntN.{ℤ, pos, natAbs}
 use Rattle.rules.specs.declared.Vector.{Vector}
 use Rattle.rules.specs.declared.Triangle.{Triangle}
@@ -15,9 +12,8 @@ use Rattle.rules.specs.declared.Pick.{Pick}
 use Rattle.rules.specs.declared.Pick.the-variants.{Accepted, Refused}
 use Rattle.rules.specs.Vectors.{dot, lay, size}
 use Rattle.rules.specs.Solids.{permitted, look}
-use Rattle.rules.specs.Walk.{Stop, signs, powers, Axis, unit, units, vectorOf, level, normal, levelled, Found, found}
+use Rattle.rules.specs.Walk.{signs, powers, Axis, unit, units, vectorOf, level, normal, levelled, Found, found}
 use Rattle.rules.specs.Pick.{pick, pickOf}
-use Rattle.laws.specs.Tests.{Each}
 use Rattle.laws.specs.Triples.{detOf}
 use Rattle.laws.specs.Level.{Flat, levelsOf, raised, at-most-3, some-remain}
 use Rattle.laws.specs.Generators.{Combines, generators, Products, generators-in}
