@@ -56,13 +56,6 @@ pub lay-scale : (s u : Vector) (d : ℤ) → lay s (scale d u) ≡ scale d (lay 
 unfolding lay scale
 lay-scale s u d = vector-eq (swapped (s .x) (u .x) d) (swapped (s .y) (u .y) d) (swapped (s .z) (u .z) d)
 
-spread : (s a b : ℤ) → s *ℤ (a -ℤ b) ≡ s *ℤ a -ℤ s *ℤ b
-spread s a b = byring (s ∷ a ∷ b ∷ []) (search sides depth 40 fits 5000) tt
-
-pub lay-difference : (s a b : Vector) → lay s (a ⊖ b) ≡ lay s a ⊖ lay s b
-unfolding lay _⊖_
-lay-difference s a b = vector-eq (spread (s .x) (a .x) (b .x)) (spread (s .y) (a .y) (b .y)) (spread (s .z) (a .z) (b .z))
-
 gathered : (s a b : ℤ) → s *ℤ (a +ℤ b) ≡ s *ℤ a +ℤ s *ℤ b
 gathered s a b = byring (s ∷ a ∷ b ∷ []) (search sides depth 40 fits 5000) tt
 

@@ -82,7 +82,7 @@ on-wedge : (g : ℤ) (k : Axis) {n : Vector} {a b c h : ℤ} {p : Vector} {frame
     → OnWedge g n (wedgeOf a b c h) p frame reach
 on-wedge g k {n = n} r f ok x y z one fits once multiple filled empty = record {
   permitted = record { permittedReach = r; permittedFrame = f; permittedSolid = ok };
-  direction = record { signed = record { ofX = leZ-yes x; ofY = leZ-yes y; ofZ = leZ-yes z }; notAllZero = not-all-zero n k one; noCommonDivisor = λ d u h e. no-divisor n k one d u (omega (arith, parts)) e; withinReach = leZ-yes fits };
+  direction = record { signed = record { ofX = leZ-yes x; ofY = leZ-yes y; ofZ = leZ-yes z }; notAllZero = λ e. absurd (not-all-zero n k one e); noCommonDivisor = λ d u h e. no-divisor n k one d u (omega (arith, parts)) e; withinReach = leZ-yes fits };
   atLeastOnce = leZ-yes once;
   multiple = multiple;
   touched = record { startFilled = filled; apexEmpty = empty };
@@ -135,7 +135,7 @@ on-stair : OnSlope (at 1) (pos 12) (ofStack stair stairBytes (at 3) (pos 0) (pos
 unfolding between permittedStack stackBytes sliceBytes rowBytes stairBytes slices rows row lay signs sign size look inBox voxel filledStack _⊕_
 on-stair = record {
   permitted = record { permittedReach = tt; permittedFrame = tt; permittedSolid = tt };
-  direction = record { signed = record { ofX = leZ-yes tt; ofY = leZ-yes tt; ofZ = leZ-yes tt }; notAllZero = not-all-zero (at 1) axis0 refl; noCommonDivisor = λ d u h e. no-divisor (at 1) axis0 refl d u (omega (arith, parts)) e; withinReach = leZ-yes tt };
+  direction = record { signed = record { ofX = leZ-yes tt; ofY = leZ-yes tt; ofZ = leZ-yes tt }; notAllZero = λ e. absurd (not-all-zero (at 1) axis0 refl e); noCommonDivisor = λ d u h e. no-divisor (at 1) axis0 refl d u (omega (arith, parts)) e; withinReach = leZ-yes tt };
   filledBelow = stair-below;
   touched = record { startFilled = refl; apexEmpty = refl };
 }
@@ -164,7 +164,7 @@ unfolding between permittedWedge lay signs sign size look filledWedge inBox dot 
 base-not-empty = record {
   W1 = record {
     permitted = record { permittedReach = tt; permittedFrame = tt; permittedSolid = tt };
-    direction = record { signed = record { ofX = leZ-yes tt; ofY = leZ-yes tt; ofZ = leZ-yes tt }; noCommonDivisor = not-empty .W1 .onSlope .direction .noCommonDivisor; withinReach = leZ-yes tt };
+    direction = record { signed = record { ofX = leZ-yes tt; ofY = leZ-yes tt; ofZ = leZ-yes tt }; noCommonDivisor = λ d u h e. no-divisor (vector (pos 1) (pos 2) (pos 5)) axis0 refl d u (omega (arith, parts)) e; withinReach = leZ-yes tt };
     filledBelow = not-empty .W1 .onSlope .filledBelow;
     touched = not-empty .W1 .onSlope .touched;
   };

@@ -57,7 +57,7 @@ module _ (n : Vector) (i : Inputs) (d : Direction n i) where
   to-direction : Demands.Direction n i
   to-direction = record {
     signed = parts-by (λ z. pos 0 ≤ℤ z) _ (λ k. let h = part-of (d .signed) k in omega (arith, parts));
-    notAllZero = λ e. false≢true (sym (unlevel axis0) ∙ ap (λ (a : Vector). isZero (a .x)) e);
+    notAllZero = λ e. absurd (false≢true (sym (unlevel axis0) ∙ ap (λ (a : Vector). isZero (a .x)) e));
     noCommonDivisor = d .noCommonDivisor;
     withinReach = d .withinReach;
   }

@@ -75,10 +75,7 @@ module _ (N : Vector) (v : Levels) (lies : Lies v N) (m : Triangle) (even : Even
     weighted : (l : Axis) → height l ≡ height k *ℤ weight (level v l)
     weighted l = by-weight (level v l) (height l) (height k) (level-dot v m (even .upright .flat) N lies l) (λ j. let a = at-most k l r j in let b = at-most l k j r in omega (arith, parts))
 
-    -- N without its common divisor a
-    abbrev pub reduced : Vector
-    reduced = combined (crosses m) (weight (v .x)) (weight (v .y)) (weight (v .z))
-
+    -- N is a times a whole vector
     pub multiple : N ≡ scale (dot N (vectorOf m k)) (combined (crosses m) (weight (v .x)) (weight (v .y)) (weight (v .z)))
     multiple = weighted-products N m (height k) (λ l. weight (level v l)) (even .upright .unimodular) weighted
 
