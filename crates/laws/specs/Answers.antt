@@ -25,7 +25,8 @@ use Rattle.rules.specs.Walk.{Stop, stop, powers, Axis, axis0, axis1, axis2, uni
 use Rattle.rules.specs.Pick.{pick, answer, pickOf}
 use Rattle.laws.specs.Parts.{NonNegative, part, part-of, parts-by, scale-one}
 use Rattle.laws.specs.Triples.{detOf, crosses, combined, expand}
-use Rattle.laws.specs.Level.{Flat, isZero, levelsOf, levels-of, levels-eq, part-levelled, levelled-dot}
+use Rattle.laws.specs.Levels.{isZero, levelsOf, levels-of, levels-eq, part-levelled}
+use Rattle.laws.specs.Flat.{Flat, levelled-dot}
 use Rattle.laws.specs.Generators.{Combines, generators, Products, face-generated}
 use Rattle.laws.specs.Tame.{tame-normal}
 use Rattle.laws.specs.Says.{Says, Few}

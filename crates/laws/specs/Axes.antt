@@ -13,7 +13,7 @@ use Rattle.rules.specs.declared.Levels.{Levels}
 use Rattle.rules.specs.Vectors.{_⊕_, minus, lay}
 use Rattle.rules.specs.Asked.{Asked, answered, refused, _>>=_, _>>_}
 use Rattle.rules.specs.Walk.{Stop, stop, ensure, asked, falls, Axis, axis0, axis1, axis2, unit, levels, level, allLevel, remaining, isLevel, axes}
-use Rattle.laws.specs.Level.{remains, remaining-count}
+use Rattle.laws.specs.Levels.{remains, remaining-count}
 use Rattle.laws.specs.Says.{Says, Few, fewer, says-answer, says-bind, says-asked, says-ensure}
 use Rattle.laws.specs.Looks.{Fell, Beyond, falls-says}
 use Rattle.laws.specs.Next.{downward, opposite, NextLook, next-look}

@@ -13,7 +13,7 @@ use Rattle.integers.specs.Sizes.{product-size}
 use Rattle.rules.specs.declared.Vector.{Vector}
 use Rattle.rules.specs.Vectors.{_⊕_, _⊖_, scale, dot, lay, size}
 use Rattle.rules.specs.Walk.{sign, signs, Axis}
-use Rattle.laws.specs.Level.{isZero, not-zero}
+use Rattle.laws.specs.Levels.{isZero, not-zero}
 use Rattle.laws.specs.Parts.{Parts, part, part-of, part-lay, vector-eq, NonNegative, Positive, of3}
 
 abbrev pub IsSign : ℤ → Type 0

@@ -16,7 +16,7 @@ use Rattle.laws.specs.Tests.{Each}
 use Rattle.laws.specs.Only.{each-of, each-both, each-map, only-holds}
 use Rattle.laws.specs.Parts.{part, vector-by-parts, part-sum, part-difference, part-scale, part-origin, dot-sum, dot-difference, dot-scale, dot-origin}
 use Rattle.laws.specs.Triples.{combined}
-use Rattle.laws.specs.Level.{weight}
+use Rattle.laws.specs.Flat.{weight}
 
 -- ---- what is stated
 -- v is a whole combination of some vectors

@@ -3,7 +3,8 @@ pub mod Tests
 pub mod Only
 pub mod Parts
 pub mod Triples
-pub mod Level
+pub mod Levels
+pub mod Flat
 pub mod Generators
 pub mod Tame
 pub mod Sphere

@@ -21,7 +21,8 @@ use Rattle.rules.specs.Walk.{Stop, stop, signs, powers, Axis, units, way, pairs
 use Rattle.rules.specs.Pick.{isInside, pick}
 use Rattle.laws.specs.Tests.{Each}
 use Rattle.laws.specs.Tame.{Tame, units-tame, step-tame}
-use Rattle.laws.specs.Level.{Flat, units-flat, step-flat, at-most-3, pairs-taking, some-remain, two-remain}
+use Rattle.laws.specs.Levels.{at-most-3, pairs-taking, some-remain, two-remain}
+use Rattle.laws.specs.Flat.{Flat, units-flat, step-flat}
 use Rattle.laws.specs.Choosing.{choice-exists}
 use Rattle.laws.specs.Says.{Says, Few, fewer, says-answer, says-weaker, says-bind, few-bind, few-fewer, says-asked, says-ensure}
 use Rattle.laws.specs.Looks.{IsOutside, Fell, FellOf, look-says}

@@ -28,8 +28,9 @@ use Rattle.rules.specs.Walk.{signs, powers, Axis, axis0, axis1, axis2, unit, un
 use Rattle.rules.specs.Pick.{isInside, pickOf}
 use Rattle.laws.specs.Parts.{NonNegative, Positive, part, parts-by}
 use Rattle.laws.specs.Triples.{All, all-by, detOf, step-det}
-use Rattle.laws.specs.Level as Level
-use Rattle.laws.specs.Level.{weight, isZero, levelsOf, levels-of}
+use Rattle.laws.specs.Levels as Levels
+use Rattle.laws.specs.Levels.{isZero, levelsOf, levels-of}
+use Rattle.laws.specs.Flat.{weight}
 use Rattle.laws.specs.Generators.{Combines, generators, two-sides}
 use Rattle.laws.specs.Tame.{units-tame}
 use Rattle.laws.specs.Sphere as Sphere
@@ -83,7 +84,7 @@ triangle-within = Boxes.triangle-within
 
 -- ---- with r remaining axes r(r - 1) pairs take part
 pub pairs-taking : (v : Levels) → length (only (takesPart v) pairs) ≡ length (remaining v) * (length (remaining v) - 1)
-pairs-taking = Level.pairs-taking
+pairs-taking = Levels.pairs-taking
 
 module _ (solid : Solid) (bytes : List ℕ) (p : Vector) (frame reach : ℤ) where
   abbrev R : ℕ

@@ -130,6 +130,10 @@ with m x a = withVector m (from x) a
 abbrev pub step : Triangle → Pair → Triangle
 step m x = with m x (first m x ⊖ second m x)
 
+-- the sum of the cross products m0×m1, m1×m2, m2×m0
+unfoldable pub normal : Triangle → Vector
+normal m = cross (m .m0) (m .m1) ⊕ cross (m .m1) (m .m2) ⊕ cross (m .m2) (m .m0)
+
 -- ---- 2026-01: level axes
 abbrev pub levels : Bool → Bool → Bool → Levels
 levels a b c = record { x = a; y = b; z = c }
@@ -167,10 +171,6 @@ unlessLevel false z = z
 
 unfoldable pub levelled : Levels → Vector → Vector
 levelled v n = vector (unlessLevel (v .x) (n .x)) (unlessLevel (v .y) (n .y)) (unlessLevel (v .z) (n .z))
-
--- the sum of the cross products m0×m1, m1×m2, m2×m0
-unfoldable pub normal : Triangle → Vector
-normal m = cross (m .m0) (m .m1) ⊕ cross (m .m1) (m .m2) ⊕ cross (m .m2) (m .m0)
 
 -- ---- Choice. The corners are v_k = q - m_k and the candidate of (k, l) is q + m_l - m_k, so the rows v1 - v0, v2 - v0, x - v0, y - v0 are these
 unfoldable pub determinant : Triangle → Pair → Pair → ℤ

@@ -21,7 +21,7 @@ use Rattle.rules.specs.Walk.{Axis, axis0, axis1, axis2, first, second, way, lev
 use Rattle.laws.specs.Tests.{both}
 use Rattle.laws.specs.Parts.{part, part-of, parts-by, dot-difference}
 use Rattle.laws.specs.Triples.{All, all-first, all-second}
-use Rattle.laws.specs.Level.{isZero, levelsOf}
+use Rattle.laws.specs.Levels.{isZero, levelsOf}
 use Rattle.laws.specs.Generators.{Combines, generators, two-sides}
 use Rattle.laws.specs.Frames.{signs-are, lay-lay, lay-part-zero, same-frame}
 use Rattle.laws.specs.Boxes.{between-yes}

@@ -24,7 +24,7 @@ use Rattle.rules.specs.Walk.{signs, powers, Axis, unit, vectorOf, level, remain
 use Rattle.rules.specs.Pick.{pickOf, WedgePromise, StackPromise}
 use Rattle.laws.specs.Tests.{Each}
 use Rattle.laws.specs.Parts.{NonNegative}
-use Rattle.laws.specs.Level.{levelsOf}
+use Rattle.laws.specs.Levels.{levelsOf}
 use Rattle.laws.specs.Generators.{Combines, generators}
 use Rattle.laws.specs.Next.{NextLook}
 use Rattle.laws.specs.Answers.{stopOf}

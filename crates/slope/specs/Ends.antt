@@ -20,7 +20,7 @@ use Rattle.rules.specs.Walk.{Axis, axis0, axis1, axis2, vectorOf, from, to, fir
 use Rattle.laws.specs.Tests.{both}
 use Rattle.laws.specs.Parts.{dot-difference, scale-one}
 use Rattle.laws.specs.Triples.{all-of, crosses, combined, equal-products}
-use Rattle.laws.specs.Level.{Lies, raised, isOne, weight, raised-dot, raised-same, raised-way, level-dot, levelled-raised, weighted-products}
+use Rattle.laws.specs.Flat.{Lies, raised, isOne, weight, raised-dot, raised-same, raised-way, level-dot, levelled-raised, weighted-products}
 use Rattle.slope.specs.Ideal.{Even}
 
 -- two axes are the same, or a pair's

@@ -21,7 +21,7 @@ use Rattle.rules.specs.Walk.{Axis, axis0, axis1, axis2, vectorOf, withVector, p
 use Rattle.laws.specs.Only.{each-both-of, only-holds, only-each, only-none, each-taking}
 use Rattle.laws.specs.Parts.{dot-difference}
 use Rattle.laws.specs.Triples.{All, all-first, all-second, all-with, detOf, step-det}
-use Rattle.laws.specs.Level.{Flat, step-flat}
+use Rattle.laws.specs.Flat.{Flat, step-flat}
 use Rattle.laws.specs.Choosing.{Chose, choice-is, choice-exists}
 
 module _ (n : Vector) (v : Levels) where

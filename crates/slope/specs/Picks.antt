@@ -22,7 +22,8 @@ use Rattle.rules.specs.Walk.{Stop, stop, ensure, powers, Axis, axis0, axis1, ax
 use Rattle.rules.specs.Pick.{isInside, pick}
 use Rattle.laws.specs.Tests.{is-false, not-less}
 use Rattle.laws.specs.Parts.{part, part-of, part-origin, vector-by-parts, dot-minus, dot-unit}
-use Rattle.laws.specs.Level.{remains, remaining-count, at-most-3, pairs-taking, isZero, is-zero, not-zero, levelsOf, levels-of, levels-eq, all-level, lowest, units-flat, raise, raised, Lies}
+use Rattle.laws.specs.Levels.{remains, remaining-count, at-most-3, pairs-taking, isZero, is-zero, not-zero, levelsOf, levels-of, levels-eq, all-level, lowest}
+use Rattle.laws.specs.Flat.{units-flat, raise, raised, Lies}
 use Rattle.laws.specs.Frames.{Signs, signs-are, lay-lay, lay-scale, dot-apex, lay-size, sum-size, lay-part-zero}
 use Rattle.laws.specs.Says.{Says, Few, says-answer, says-weaker, says-bind, few-bind, few-fewer, says-asked, says-ensure}
 use Rattle.laws.specs.Looks.{As, IsOutside, Fell, look-says}

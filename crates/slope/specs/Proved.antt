@@ -15,7 +15,8 @@ use Rattle.rules.specs.Solids.{permitted, look}
 use Rattle.rules.specs.Walk.{signs, powers, Axis, unit, units, vectorOf, level, normal, levelled, Found, found}
 use Rattle.rules.specs.Pick.{pick, pickOf}
 use Rattle.laws.specs.Triples.{detOf}
-use Rattle.laws.specs.Level.{Flat, levelsOf, raised, at-most-3, some-remain}
+use Rattle.laws.specs.Levels.{levelsOf, at-most-3, some-remain}
+use Rattle.laws.specs.Flat.{Flat, raised}
 use Rattle.laws.specs.Generators.{Combines, generators, Products, generators-in}
 use Rattle.laws.specs.Frames.{signs-are}
 use Rattle.laws.specs.Says.{Few}

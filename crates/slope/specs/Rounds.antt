@@ -19,7 +19,7 @@ use Rattle.rules.specs.Vectors.{dot, lay}
 use Rattle.rules.specs.Walk.{Stop, stop, pairs, way, step, keep, only, choice, takesPart}
 use Rattle.laws.specs.Tests.{Each}
 use Rattle.laws.specs.Only.{only-holds}
-use Rattle.laws.specs.Level.{Flat, Lies, raised, raised-way}
+use Rattle.laws.specs.Flat.{Flat, Lies, raised, raised-way}
 use Rattle.laws.specs.Frames.{lay-dot}
 use Rattle.laws.specs.Looks.{Fell, FellOf, RoundOf}
 use Rattle.laws.specs.Next.{Reached, sideways, NextLook, next-look}
