@@ -5,6 +5,7 @@ use mathlib.Core.List.{List}
 use Prim.Native.Nat.{ℕ, zero, suc, _+_, _*_, _-_, _≤_, max}
 use native.Mathlib.Nat as NatL
 use native.Mathlib.Omega.{arith}
+use lib.Dec.{T}
 use lib.ListN.{length}
 use lib.IntN.{ℤ, pos, negsuc, natAbs}
 use lib.Signed.{_≤ℤ_}
@@ -141,6 +142,10 @@ module _ {look : Vector → Look} {q s : Vector} {R : ℕ} {f : Found} (h : Acce
   pub accepting-axes : Signs s → (k : Axis) → (voxels : List Vector) × (isLevel look q s (powers R) (unit k) ≡ answered (level (levelsOf (f .normal)) k) voxels)
   accepting-axes g k = let a = h .asked .axis k in (a .voxels, a .is ∙ ap (λ (v : Levels). answered (level v k) (a .voxels)) (accepting-levels g))
 
+  -- a level axis's vector stays the unit vector
+  pub accepting-stays : Signs s → (k : Axis) → T (level (levelsOf (f .normal)) k) → vectorOf (f .triangle) k ≡ lay s (unit k)
+  accepting-stays g k e = ap (λ (t : Triangle). vectorOf t k) accepting-triangle ∙ laid-of s m k ∙ ap (lay s) (h .end .flat k (subst (λ (v : Levels). T (level v k)) (sym (accepting-levels g)) e) k .own refl)
+
   pub accepting-products : Signs s → Products (levelsOf (f .normal)) (f .normal) (f .triangle)
   accepting-products g = rw (← accepting-levels g) (rw (accepting-triangle, accepting-normal) (laid-products g (h .end .flat) (h .end .tame .unimodular)))
 
@@ -170,8 +175,8 @@ module _ (solid : Solid) (bytes : List ℕ) (p : Vector) (frame reach : ℤ) whe
   told-steps = go _ (pickOf solid bytes p frame reach) (told _ (λ _. NatL.le-refl _))
     where
       go : (N : ℕ) (x : Pick) → AnswerSays (Few N PickedHere) (Few N ToldHere) x → stepsOf x ≤ natAbs reach - 2
-      go N (Accepted a) h = let k = h .holds .accepting in rw (ap (λ (f : Found). f .steps) (k .is)) (k .end .fewSteps .1)
-      go N (Refused r) h = h .holds .fewSteps
+      go N (Accepted a) h = let k = h .holds .accepting in rw (ap (λ (f : Found). f .steps) (k .is)) (k .end .fewSteps .1 .most)
+      go N (Refused r) h = h .holds .fewSteps .most
 
   pub told-looks : (N : ℕ) → (natAbs reach ≤ 256 → 2 + length (powers (natAbs reach)) * (6 * max (natAbs reach) 3 - 9) ≤ N) → looksOf (pickOf solid bytes p frame reach) ≤ N
   told-looks N h = go (pickOf solid bytes p frame reach) (told N h)

@@ -34,27 +34,35 @@ use Rattle.laws.specs.Walks.{WalkRule, walk-says}
 use Rattle.laws.specs.Boxes.{between-yes}
 
 -- ---- what a refusal tells
-pub record Told (look : Vector → Look) (q s : Vector) (ls : List ℕ) (B : ℕ) (r : Stop) : Type 0 where
-  pub fewSteps : r .steps ≤ B
-  pub next : r .number ≡ 8 → NextLook look q s ls r
+-- n steps: at most R - 2, and where one was taken, at most R less the axes that remained when they were asked
+pub record FewSteps (look : Vector → Look) (q s : Vector) (R n : ℕ) : Type 0 where
+  pub most : n ≤ R - 2
+  pub asked : 1 ≤ n → (v : Levels) × AxesOf look q s (powers R) v × (n ≤ R - length (remaining v))
 
-module _ (look : Vector → Look) (q s : Vector) (ls : List ℕ) (B : ℕ) where
-  other-than-8 : (number : ℕ) (p : Vector) (n : ℕ) → (number ≡ 8 → ⊥) → n ≤ B → Told look q s ls B (stop number p n)
+pub record Told (look : Vector → Look) (q s : Vector) (R : ℕ) (r : Stop) : Type 0 where
+  pub fewSteps : FewSteps look q s R (r .steps)
+  pub next : r .number ≡ 8 → NextLook look q s (powers R) r
+
+module _ (look : Vector → Look) (q s : Vector) (R : ℕ) where
+  none-taken : FewSteps look q s R 0
+  none-taken = record { most = omega arith; asked = λ h. absurd (omega (arith, h)) }
+
+  other-than-8 : (number : ℕ) (p : Vector) (n : ℕ) → (number ≡ 8 → ⊥) → FewSteps look q s R n → Told look q s R (stop number p n)
   other-than-8 number p n h k = record { fewSteps = k; next = λ e. absurd (h e) }
 
   -- before the first step
-  refuse : (number : ℕ) (p : Vector) → (number ≡ 8 → ⊥) → Told look q s ls B (stop number p 0)
-  refuse number p h = other-than-8 number p 0 h (omega arith)
+  refuse : (number : ℕ) (p : Vector) → (number ≡ 8 → ⊥) → Told look q s R (stop number p 0)
+  refuse number p h = other-than-8 number p 0 h none-taken
 
-  eight : (p : Vector) (n : ℕ) → n ≤ B → NextLook look q s ls (stop 8 p n) → Told look q s ls B (stop 8 p n)
+  eight : (p : Vector) (n : ℕ) → FewSteps look q s R n → NextLook look q s (powers R) (stop 8 p n) → Told look q s R (stop 8 p n)
   eight p n k h = record { fewSteps = k; next = λ _. h }
 
 -- ---- what an end tells: no pair that takes part fell
-pub record End (look : Vector → Look) (q s : Vector) (ls : List ℕ) (v : Levels) (R : ℕ) (e : Triangle × ℕ) : Type 0 where
+pub record End (look : Vector → Look) (q s : Vector) (v : Levels) (R : ℕ) (e : Triangle × ℕ) : Type 0 where
   pub tame : Tame (e .0)
   pub flat : Flat v (e .0)
-  pub fewSteps : (e .1 ≤ R - length (remaining v)) × (e .1 ≤ R - 2)
-  pub stood : Each (λ x. Fell look q (lay s (way (e .0) x)) ls false) (only (takesPart v) pairs)
+  pub fewSteps : (e .1 ≤ R - length (remaining v)) × FewSteps look q s R (e .1)
+  pub stood : Each (λ x. Fell look q (lay s (way (e .0) x)) (powers R) false) (only (takesPart v) pairs)
 
 module _ (look : Vector → Look) (q s : Vector) (ls : List ℕ) where
   none-fell : (m : Triangle) (xs fs : List Pair) → FellOf look q s ls m xs fs → fs ≡ [] → Each (λ x. Fell look q (lay s (way m x)) ls false) xs
@@ -66,21 +74,34 @@ module _ (look : Vector → Look) (q s : Vector) (ls : List ℕ) where
       go true f e r = absurd (let z : _≡_ {A = ℕ} 0 1 = cc in omega arith)
       go false f e r = (f, r e)
 
-  -- what every round keeps; a step needs two remaining axes
-  record Kept (v : Levels) (R left r n : ℕ) (m : Triangle) : Type 0 where
-    pub isLeft : r ≡ left
-    pub fewSteps : n + left ≤ R - length (remaining v)
-    pub two : 1 ≤ n → 2 ≤ length (remaining v)
-    pub tame : Tame m
-    pub flat : Flat v m
-    pub reached : Reached n m
+-- what every round keeps; a step needs two remaining axes
+record Kept (v : Levels) (R left r n : ℕ) (m : Triangle) : Type 0 where
+  pub isLeft : r ≡ left
+  pub fewSteps : n + left ≤ R - length (remaining v)
+  pub two : 1 ≤ n → 2 ≤ length (remaining v)
+  pub tame : Tame m
+  pub flat : Flat v m
+  pub reached : Reached n m
 
-  every-walk : (R : ℕ) (v : Levels) → WalkRule look q s ls (only (takesPart v) pairs) (Kept v R) (End look q s ls v R) (Told look q s ls (R - 2))
-  every-walk R v = record {
-    outside = λ left r n m p h o. eight look q s ls (R - 2) p n (few left r n m h) (next-look (way m (o .pair)) (sideways m (o .pair) (h .reached) refl) (o .beyond));
-    ends = λ left r n m h w. record { tame = h .tame; flat = h .flat; fewSteps = (omega (arith, h .fewSteps), few left r n m h); stood = none-fell m (only (takesPart v) pairs) (w .0) (w .1) (choice-exists m (h .tame .unimodular) (w .0) (sym (w .2))) };
-    stops = λ r n m x h w. other-than-8 look q s ls (R - 2) 9 q n (omega arith) (few 0 r n m h);
-    steps = λ left r n m x h w. let t = chosen-only look q s ls m (takesPart v) pairs x w in (
+module _ (look : Vector → Look) (q s : Vector) (R : ℕ) (v : Levels) (asked : AxesOf look q s (powers R) v) where
+  few-steps : (left r n : ℕ) (m : Triangle) → Kept v R left r n m → FewSteps look q s R n
+  few-steps left r n m h = record { most = most n (h .fewSteps) (h .two); asked = λ _. (v, asked, omega (arith, h .fewSteps)) }
+    where
+      most : (n : ℕ) → n + left ≤ R - length (remaining v) → (1 ≤ n → 2 ≤ length (remaining v)) → n ≤ R - 2
+      most zero h k = omega arith
+      most (suc n) h k = omega (arith, h, k (omega arith))
+
+  every-walk : WalkRule look q s (powers R) (only (takesPart v) pairs) (Kept v R) (End look q s v R) (Told look q s R)
+  every-walk = record {
+    outside = λ left r n m p h o. eight look q s R p n (few-steps left r n m h) (next-look (way m (o .pair)) (sideways m (o .pair) (h .reached) refl) (o .beyond));
+    ends = λ left r n m h w. record {
+      tame = h .tame;
+      flat = h .flat;
+      fewSteps = (omega (arith, h .fewSteps), few-steps left r n m h);
+      stood = none-fell look q s (powers R) m (only (takesPart v) pairs) (w .0) (w .1) (choice-exists m (h .tame .unimodular) (w .0) (sym (w .2)));
+    };
+    stops = λ r n m x h w. other-than-8 look q s R 9 q n (omega arith) (few-steps 0 r n m h);
+    steps = λ left r n m x h w. let t = chosen-only look q s (powers R) m (takesPart v) pairs x w in (
       left,
       omega (arith, h .isLeft),
       record {
@@ -93,10 +114,6 @@ module _ (look : Vector → Look) (q s : Vector) (ls : List ℕ) where
       },
     );
   }
-    where
-      few : (left r n : ℕ) (m : Triangle) → Kept v R left r n m → n ≤ R - 2
-      few left r zero m h = omega arith
-      few left r (suc n) m h = omega (arith, h .fewSteps, h .two (omega arith))
 
 -- ---- what an accepted pick tells
 pub record Accepting (look : Vector → Look) (q s : Vector) (R : ℕ) (f : Found) : Type 0 where
@@ -104,7 +121,7 @@ pub record Accepting (look : Vector → Look) (q s : Vector) (R : ℕ) (f : Foun
   pub asked : AxesOf look q s (powers R) level
   pub at : Triangle × ℕ
   pub is : f ≡ found s q level at
-  pub end : End look q s (powers R) level R at
+  pub end : End look q s level R at
   pub fits : size (levelled level (normal (at .0))) ≤ R
 
 module _ (look : Vector → Look) (p q s : Vector) (R : ℕ) (inside : T (isInside (look p)) × T (isInside (look q))) where
@@ -112,7 +129,7 @@ module _ (look : Vector → Look) (p q s : Vector) (R : ℕ) (inside : T (isInsi
   K = length (powers R)
 
   abbrev ToldHere : Stop → Type 0
-  ToldHere = Told look q s (powers R) (R - 2)
+  ToldHere = Told look q s R
 
   -- p and q are inside, so refusal 8 is not given there
   not-outside : (a : Vector) → T (isInside (look a)) → (r : Vector) (n : ℕ) → Few 1 (λ r. (r ≡ a) × IsOutside look a) r n → Few 1 ToldHere (stop 8 r 0) n
@@ -120,28 +137,28 @@ module _ (look : Vector → Look) (p q s : Vector) (R : ℕ) (inside : T (isInsi
   not-outside a i r n h = absurd (subst (λ x. T (isInside x)) (h .holds .1) i)
 
   axis-rule : (k : Axis) → AxisRule look q s (powers R) ToldHere k
-  axis-rule k = record { eight = λ p h. eight look q s (powers R) (R - 2) p 0 (omega arith) h; seven = λ _ _. refuse look q s (powers R) (R - 2) 7 _ (omega arith) }
+  axis-rule k = record { eight = λ p h. eight look q s R p 0 (none-taken look q s R) h; seven = λ _ _. refuse look q s R 7 _ (omega arith) }
 
   start-says : Says (λ v n. AxesOf look q s (powers R) v × (n + length (remaining v) * K ≤ 2 + 6 * K)) (Few (2 + 6 * K) ToldHere) (start look s p q R)
   unfolding start
   start-says =
       says-bind {P = Few 1 _} {G = Few 1 ToldHere} _ _ (says-asked 0 _ (not-outside p (inside .0)) (look-says look p)) (λ r n h. fewer (λ l. omega (arith, l)) h) (λ f m a.
-      says-ensure f _ _ (λ _. record { holds = refuse look q s (powers R) (R - 2) 5 p (omega arith); few = omega (arith, a .few) }) (λ _.
+      says-ensure f _ _ (λ _. record { holds = refuse look q s R 5 p (omega arith); few = omega (arith, a .few) }) (λ _.
       says-bind {P = Few 1 _} {G = Few 1 ToldHere} _ _ (says-asked 0 _ (not-outside q (inside .1)) (look-says look q)) (λ r n h. fewer (λ l. omega (arith, l, a .few)) h) (λ g n b.
-      says-ensure (not g) _ _ (λ _. record { holds = refuse look q s (powers R) (R - 2) 6 q (omega arith); few = omega (arith, a .few, b .few) }) (λ _.
+      says-ensure (not g) _ _ (λ _. record { holds = refuse look q s R 6 q (omega arith); few = omega (arith, a .few, b .few) }) (λ _.
       says-weaker _ (λ v l h. (h .0, omega (arith, h .1, a .few, b .few))) (λ r l h. fewer (λ k. omega (arith, k, a .few, b .few)) h)
-      (axes-says look q s (powers R) axis-rule (λ _. refuse look q s (powers R) (R - 2) 7 _ (omega arith)))))))
+      (axes-says look q s (powers R) axis-rule (λ _. refuse look q s R 7 _ (omega arith)))))))
 
   rounds-says : (v : Levels) → AxesOf look q s (powers R) v
       → Says (Few (suc (R - length (remaining v)) * (length (only (takesPart v) pairs) * K)) (Accepting look q s R)) (Few (suc (R - length (remaining v)) * (length (only (takesPart v) pairs) * K)) ToldHere) (rounds look s q R v)
   unfolding rounds
   rounds-says v asked =
       few-fewer _ (omega arith)
-      (few-bind {N = 0} _ _ (walk-says look q s (powers R) (only (takesPart v) pairs) (every-walk look q s (powers R) R v) (R - length (remaining v)) (R - length (remaining v)) 0 units begin) (λ e h.
-      says-ensure _ _ _ (λ _. record { holds = other-than-8 look q s (powers R) (R - 2) 10 q (e .1) (omega arith) (h .fewSteps .1); few = omega arith }) (λ t.
+      (few-bind {N = 0} _ _ (walk-says look q s (powers R) (only (takesPart v) pairs) (every-walk look q s R v asked) (R - length (remaining v)) (R - length (remaining v)) 0 units begin) (λ e h.
+      says-ensure _ _ _ (λ _. record { holds = other-than-8 look q s R 10 q (e .1) (omega arith) (h .fewSteps .1); few = omega arith }) (λ t.
       says-answer (record { holds = record { level = v; asked = asked; at = e; is = refl; end = h; fits = leb→le (size (levelled v (normal (e .0)))) R t }; few = omega arith }))))
     where
-      begin : Kept look q s (powers R) v R (R - length (remaining v)) (R - length (remaining v)) 0 units
+      begin : Kept v R (R - length (remaining v)) (R - length (remaining v)) 0 units
       begin = record { isLeft = refl; fewSteps = omega arith; two = λ h. absurd (omega (arith, h)); tame = units-tame; flat = units-flat v; reached = refl }
 
 -- from 1 to 256
@@ -167,7 +184,7 @@ module _ (ok : Bool) (look : Vector → Look) (p : Vector) (frame reach : ℤ) w
     pub accepting : Accepting look (p ⊕ s) s R f
 
   abbrev pub ToldOf : Stop → Type 0
-  ToldOf = Told look (p ⊕ s) s (powers R) (R - 2)
+  ToldOf = Told look (p ⊕ s) s R
 
   -- the reach, or 3 where it is less
   abbrev M : ℕ
@@ -175,7 +192,7 @@ module _ (ok : Bool) (look : Vector → Look) (p : Vector) (frame reach : ℤ) w
 
   module _ (N : ℕ) (enough : R ≤ 256 → 2 + length (powers R) * (6 * max R 3 - 9) ≤ N) where
     at-once : (number : ℕ) (a : Vector) → (number ≡ 8 → ⊥) → Few N ToldOf (stop number a 0) 0
-    at-once number a h = record { holds = refuse look (p ⊕ s) s (powers R) (R - 2) number a h; few = omega arith }
+    at-once number a h = record { holds = refuse look (p ⊕ s) s R number a h; few = omega arith }
 
     start-few : R ≤ 256 → 2 + 6 * length (powers R) ≤ N
     start-few h = let k : 6 ≤ 6 * M - 9 = omega arith in omega (arith, enough h, NatL.mul-comm (length (powers R)) 6, NatL.mul-le-mul-left (length (powers R)) k)

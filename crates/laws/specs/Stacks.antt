@@ -89,7 +89,10 @@ equal-flat m h =
     (by-eq (m .m2 .x *ℤ m .m0 .y -ℤ m .m2 .y *ℤ m .m0 .x) (h axis2)
     (byring (of9 m) (search sides depth 40 fits 5000) tt)))
 
-module _ (look : Vector → Look) (box : (p : Vector) → T (isInside (look p)) → InCube 255 p) (q s : Vector) (signed : Signs s) (ls : List ℕ) (far : Reaches 128 ls) where
+module _ (look : Vector → Look) (box : (p : Vector) → T (isInside (look p)) → InCube 255 p) (q s : Vector) (signed : Signs s) (R : ℕ) (far : Reaches 128 (powers R)) where
+  abbrev ls : List ℕ
+  ls = powers R
+
   -- a vector that fell neither way
   still : (u : Vector) → Fell look q (lay s u) ls false → Fell look q (lay s (minus u)) ls false → (k : Axis) → part k u ≡ pos 0
   still u f g k =
@@ -106,9 +109,9 @@ module _ (look : Vector → Look) (box : (p : Vector) → T (isInside (look p)) 
   no-level k false f = tt
   no-level k true f = let o : pos 1 ≡ pos 0 = sym (unit-one k) ∙ still (unit k) (f .1) (f .0) k in absurd (omega (arith, parts))
 
-  too-far : (v : Levels) (R : ℕ) (e : Triangle × ℕ) → AxesOf look q s ls v → End look q s ls v R e → ⊥
+  too-far : (v : Levels) (e : Triangle × ℕ) → AxesOf look q s ls v → End look q s v R e → ⊥
   unfolding takesPart
-  too-far v R e a h =
+  too-far v e a h =
       let m = e .0 in
       let stood = each-taking (λ x. Fell look q (lay s (way m x)) ls false) v (h .stood) in
       let x = no-level axis0 (level v axis0) (a .axis axis0 .fell) in
@@ -118,12 +121,12 @@ module _ (look : Vector → Look) (box : (p : Vector) → T (isInside (look p)) 
       let o : pos 1 ≡ pos 0 = sym (h .tame .unimodular) ∙ equal-flat m (still (way m P01) f g) in
       omega (arith, parts)
 
-reach-64 : (look : Vector → Look) → ((p : Vector) → T (isInside (look p)) → InCube 255 p) → (q s : Vector) → Signs s → (R : ℕ) (v : Levels) (e : Triangle × ℕ) → AxesOf look q s (powers R) v → End look q s (powers R) v R e → R ≤ 64
+reach-64 : (look : Vector → Look) → ((p : Vector) → T (isInside (look p)) → InCube 255 p) → (q s : Vector) → Signs s → (R : ℕ) (v : Levels) (e : Triangle × ℕ) → AxesOf look q s (powers R) v → End look q s v R e → R ≤ 64
 reach-64 look box q s signed R v e a h = go (leb R 64) refl
   where
     go : (b : Bool) → leb R 64 ≡ b → R ≤ 64
     go true k = leb→le R 64 (rw k tt)
-    go false k = absurd (too-far look box q s signed (powers R) (powers-128 R (nleb→lt R 64 (rw k tt))) v R e a h)
+    go false k = absurd (too-far look box q s signed R (powers-128 R (nleb→lt R 64 (rw k tt))) v e a h)
 
 pub stack-reach : (stack : Stack) (bytes : List ℕ) (p : Vector) (frame reach : ℤ) (a : AcceptedPick) → pickOf (IsStack stack) bytes p frame reach ≡ Accepted a → reach ≤ℤ pos 64
 stack-reach stack bytes p frame reach a is =

@@ -1,8 +1,8 @@
 -- What holds on every solid, wedge or stack, for every pick: the statements. The proofs are in the modules beside.
-use mathlib.Core.Path.{_≡_, ap, subst, _∙_}
+use mathlib.Core.Path.{_≡_, refl, sym, ap, subst, _∙_}
 use mathlib.Core.Bool.{false, not}
 use mathlib.Core.List.{List, []}
-use Prim.Native.Nat.{ℕ, _+_, _*_, _-_, _≤_, max}
+use Prim.Native.Nat.{ℕ, zero, suc, _+_, _*_, _-_, _≤_, max}
 use native.Mathlib.Nat as NatL
 use native.Mathlib.Omega.{arith}
 use lib.Dec.{T}
@@ -20,6 +20,7 @@ use Rattle.rules.specs.declared.Pair.the-variants.{P01, P02}
 use Rattle.rules.specs.declared.Choice.the-variants.{Nothing, Chosen}
 use Rattle.rules.specs.declared.Accepted.{Accepted as AcceptedPick}
 use Rattle.rules.specs.declared.Refused.{Refused as RefusedPick}
+use Rattle.rules.specs.declared.Pick.{Pick}
 use Rattle.rules.specs.declared.Pick.the-variants.{Accepted, Refused}
 use Rattle.rules.specs.Vectors.{_⊕_, scale, dot, lay}
 use Rattle.rules.specs.Solids.{box, inBox, permitted, look}
@@ -29,7 +30,7 @@ use Rattle.rules.specs.Pick.{isInside, pickOf}
 use Rattle.laws.specs.Parts.{NonNegative, Positive, part, parts-by}
 use Rattle.laws.specs.Triples.{All, all-by, detOf, step-det}
 use Rattle.laws.specs.Levels as Levels
-use Rattle.laws.specs.Levels.{isZero, levelsOf, levels-of}
+use Rattle.laws.specs.Levels.{isZero, levelsOf, levels-of, levels-eq}
 use Rattle.laws.specs.Flat.{weight}
 use Rattle.laws.specs.Generators.{Combines, generators, two-sides}
 use Rattle.laws.specs.Tame.{units-tame}
@@ -44,7 +45,7 @@ use Rattle.laws.specs.Boxes as Boxes
 use Rattle.laws.specs.Boxes.{outside-box}
 use Rattle.laws.specs.Next.{NextLook}
 use Rattle.laws.specs.Picks.{Accepting}
-use Rattle.laws.specs.Answers.{laid, stepsOf, looksOf, foundOf, stopOf, told-accepted, told-refused, told-steps, told-looks, accepting-determinant, accepting-products, accepting-generated, accepting-signs, accepting-steps, accepting-axes}
+use Rattle.laws.specs.Answers.{laid, stepsOf, looksOf, foundOf, stopOf, told-accepted, told-refused, told-steps, told-looks, accepting-determinant, accepting-products, accepting-generated, accepting-signs, accepting-steps, accepting-stays, accepting-axes}
 use Rattle.laws.specs.Stacks as Stacks
 
 -- ---- the powers are 1, 2, 4, .. up to the first that is at least R
@@ -113,6 +114,10 @@ module _ (solid : Solid) (bytes : List ℕ) (p : Vector) (frame reach : ℤ) whe
   pub looks-at-most-13745 : looksOf (pickOf solid bytes p frame reach) ≤ 13745
   looks-at-most-13745 = told-looks solid bytes p frame reach 13745 (λ h. few-looks R (max R 3) h (omega arith))
 
+  -- the axes were asked, and v has those that are level
+  abbrev pub Asked : Levels → Type 0
+  Asked v = (k : Axis) → (voxels : List Vector) × (isLevel (look solid bytes) (p ⊕ signs (natAbs frame)) (signs (natAbs frame)) (powers (natAbs reach)) (unit k) ≡ answered (level v k) voxels)
+
   -- ---- an accepted pick
   module _ (a : AcceptedPick) (is : pickOf solid bytes p frame reach ≡ Accepted a) where
     abbrev accepting : Accepting (look solid bytes) (p ⊕ signs (natAbs frame)) (signs (natAbs frame)) (natAbs reach) (foundOf a)
@@ -122,12 +127,16 @@ module _ (solid : Solid) (bytes : List ℕ) (p : Vector) (frame reach : ℤ) whe
     signed = signs-are (natAbs frame)
 
     -- an axis is level exactly if the normal's part is 0
-    pub accepted-levels : (k : Axis) → (voxels : List Vector) × (isLevel (look solid bytes) q s (powers (natAbs reach)) (unit k) ≡ answered (level (levelsOf (a .normal)) k) voxels)
+    pub accepted-levels : Asked (levelsOf (a .normal))
     accepted-levels = accepting-axes accepting signed
 
     -- the other parts have the frame's sign
     pub accepted-signs : NonNegative (lay s (a .normal))
     accepted-signs = accepting-signs accepting signed
+
+    -- a level axis's vector stays the unit vector, laid in
+    pub accepted-stays : (k : Axis) → T (level (levelsOf (a .normal)) k) → vectorOf (a .triangle) k ≡ lay s (unit k)
+    accepted-stays = accepting-stays accepting signed
 
     -- steps: at most the reach less the remaining axes
     pub accepted-steps : a .steps ≤ natAbs reach - length (remaining (levelsOf (a .normal)))
@@ -152,15 +161,34 @@ module _ (solid : Solid) (bytes : List ℕ) (p : Vector) (frame reach : ℤ) whe
       pub base-signs : Positive (lay s (a .normal))
       base-signs = parts-by (λ z. pos 1 ≤ℤ z) (lay s (a .normal)) (λ k. lay-part-high s (a .normal) signed accepted-signs k (none k))
 
-      pub base-steps : a .steps ≤ natAbs reach - 3
-      unfolding remaining only keep
-      base-steps = subst (λ (v : Levels). a .steps ≤ natAbs reach - length (remaining v)) unlevel accepted-steps
-
       pub base-products : All (λ m. dot (a .normal) m ≡ pos 1) (a .triangle)
       base-products = all-by (λ k. accepted-products k ∙ ap weight (levels-of (a .normal) k ∙ none k))
 
       pub base-sides : (v : Vector) → dot (a .normal) v ≡ pos 0 → (c1 : ℤ) × (c2 : ℤ) × (v ≡ scale c1 (way (a .triangle) P01) ⊕ scale c2 (way (a .triangle) P02))
       base-sides v h = two-sides (a .triangle) v (subst (λ l. Combines (generators l (a .triangle)) v) unlevel (accepted-generated v h))
+
+  -- ---- a refused pick that took a step had asked the axes: at most the reach less those that remain
+  pub refused-steps : (r : RefusedPick) → pickOf solid bytes p frame reach ≡ Refused r → 1 ≤ r .steps → (v : Levels) × Asked v × (r .steps ≤ natAbs reach - length (remaining v))
+  refused-steps r is h = let a = told-refused solid bytes p frame reach r is .fewSteps .asked h in (a .0, λ k. (a .1 .axis k .voxels, a .1 .axis k .is), a .2)
+
+  -- so with no level axis at most R - 3, refused or accepted, as document 01 has it
+  pub base-steps-at-most : Asked (levels false false false) → stepsOf (pickOf solid bytes p frame reach) ≤ natAbs reach - 3
+  unfolding remaining only keep
+  base-steps-at-most none = go (pickOf solid bytes p frame reach) refl
+    where
+      same : (v : Levels) → Asked v → v ≡ levels false false false
+      same v h = levels-eq (λ k. let e = sym (h k .1) ∙ none k .1 in cc e)
+
+      three : (n : ℕ) (v : Levels) → Asked v → n ≤ natAbs reach - length (remaining v) → n ≤ natAbs reach - 3
+      three n v h k = subst (λ (v : Levels). n ≤ natAbs reach - length (remaining v)) (same v h) k
+
+      go : (x : Pick) → pickOf solid bytes p frame reach ≡ x → stepsOf x ≤ natAbs reach - 3
+      go (Accepted a) is = three (a .steps) (levelsOf (a .normal)) (accepted-levels a is) (accepted-steps a is)
+      go (Refused r) is = refused (r .steps) (refused-steps r is)
+        where
+          refused : (n : ℕ) → (1 ≤ n → (v : Levels) × Asked v × (n ≤ natAbs reach - length (remaining v))) → n ≤ natAbs reach - 3
+          refused zero h = omega arith
+          refused (suc n) h = let a = h (omega arith) in three (suc n) (a .0) (a .1) (a .2)
 
   -- ---- refusal 8 is given at the voxel that was to be looked at next, and that lies outside the box
   pub refused-next : (r : RefusedPick) → pickOf solid bytes p frame reach ≡ Refused r → r .number ≡ 8 → NextLook (look solid bytes) q s (powers (natAbs reach)) (stopOf r)
