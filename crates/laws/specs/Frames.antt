@@ -5,13 +5,13 @@ use mathlib.Core.Bool.{false}
 use mathlib.Core.List.{[], _∷_}
 use Prim.Native.Nat.{ℕ, zero, suc, _+_, _/_, _%_}
 use native.Mathlib.Omega.{arith}
-use lib.IntN.{ℤ, pos, negsuc, natAbs, _+ℤ_, _-ℤ_, _*ℤ_}
+use lib.IntN.{ℤ, pos, negsuc, natAbs, _+ℤ_, _*ℤ_}
 use lib.Signed.{_≤ℤ_}
 use Rattle.integers.specs.Reify.{byring, sides}
 use Rattle.integers.specs.Order.{parts, linear, atom, fact}
 use Rattle.integers.specs.Sizes.{product-size}
 use Rattle.rules.specs.declared.Vector.{Vector}
-use Rattle.rules.specs.Vectors.{_⊕_, _⊖_, scale, dot, lay, size}
+use Rattle.rules.specs.Vectors.{_⊕_, scale, dot, lay, size}
 use Rattle.rules.specs.Walk.{sign, signs, Axis}
 use Rattle.laws.specs.Levels.{isZero, not-zero}
 use Rattle.laws.specs.Parts.{Parts, part, part-of, part-lay, vector-eq, NonNegative, Positive, of3}
