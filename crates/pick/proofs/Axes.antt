@@ -2,7 +2,7 @@
 -- all three level is refusal 7 too.
 use mathlib.Core.Path.{_≡_, refl, ap, _∙_}
 use mathlib.Core.Bool.{Bool, true, false, not, _&&_}
-use Prim.Native.Nat.{ℕ}
+use Prim.Native.Nat.{ℕ, _+_, _≤_}
 use native.Mathlib.Omega.{arith}
 use lib.Dec.{lit≤}
 use Rattle.rules.specs.declared.Vector.{Vector}
@@ -21,7 +21,7 @@ use Rattle.falls.specs.Falls.{Fallen, told as toldFalls, looksOf as looksOfFall
 use Rattle.falls.proofs.Scenes.{signs-bounded}
 use Rattle.walk.specs.Walk.{refusalOf}
 use Rattle.falls.proofs.Tallies.{then-yes, then-no, asked-yes, asked-no, ensured, not-ensured, at-once}
-use Rattle.pick.specs.Start.{opposed, judging, opposite, Opposed, Judged, OppositeAsked, AxisAsked, AxesAsked}
+use Rattle.pick.specs.Start.{opposed, judging, opposite, Opposed, Judged, MinusAsked, OppositeAsked, AxisJudged, AxesAsked, toldAxis, looksOfAxis}
 use Rattle.pick.specs.declared.Axis.{Axis}
 use Rattle.pick.specs.declared.Axis.the-variants.{Asked as IsAsked, Refused as AxisRefused}
 use Rattle.pick.specs.declared.Start.{Start}
@@ -50,21 +50,24 @@ module _ {look : Vector → Look} {q s : Vector} {reach : ℕ} {e : Vector} {n :
 
 pub ruleset opposing = (opposite-fell, opposite-kept, opposite-stopped)
 
--- ---- one axis, from what the falls question and the opposite promised
-module _ {look : Vector → Look} {q s : Vector} {reach : ℕ} {e : Vector} {n : ℕ} {f : Falls} {u w : Vector} (h : Fallen look q u reach n f) (a : u ≡ lay s w) (b : w ≡ minus e) where
-  pub axis-fell : {k : ℕ} → f ≡ Fell k → AxisAsked look q s reach e n (IsAsked false k)
-  unfolding isLevel
-  axis-fell {k} i = record { gives = then-yes _ (asked-yes 0 (gave (lay s (minus e)) (Fell k) h (a ∙ ap (lay s) b) i)) at-once; few = omega (arith, h .few, ap looksOfFalls i) }
+-- ---- one axis, from what the question of minus its unit vector gave
+pub minus-asked : {look : Vector → Look} {q s : Vector} {reach : ℕ} {e : Vector} {n : ℕ} {f : Falls} {u w : Vector} → w ≡ minus e → u ≡ lay s w → Fallen look q u reach n f → MinusAsked look q s reach e n f
+minus-asked b a h = record { gives = rw (← b, ← a) (h .gives); few = h .few }
 
-  pub axis-kept : {k : ℕ} {r : Axis} → f ≡ Kept k → OppositeAsked look q s reach e k r → AxisAsked look q s reach e n r
+module _ {look : Vector → Look} {q s : Vector} {reach : ℕ} {e : Vector} {f : Falls} where
+  pub axis-fell : {k : ℕ} → f ≡ Fell k → AxisJudged look q s reach e f (IsAsked false k)
+  unfolding isLevel
+  axis-fell i = record { gives = λ h. then-yes _ (asked-yes 0 (rw i at (h .gives))) at-once; few = omega (arith, ap looksOfFalls i) }
+
+  pub axis-kept : {k : ℕ} {r : Axis} → f ≡ Kept k → OppositeAsked look q s reach e k r → AxisJudged look q s reach e f r
   unfolding isLevel opposite
-  axis-kept {k} i o = record { gives = then-yes _ (asked-yes 0 (gave (lay s (minus e)) (Kept k) h (a ∙ ap (lay s) b) i)) (o .gives); few = omega (arith, h .few, ap looksOfFalls i, o .few) }
+  axis-kept i o = record { gives = λ h. then-yes _ (asked-yes 0 (rw i at (h .gives))) (o .gives); few = omega (arith, ap looksOfFalls i, o .few) }
 
-  pub axis-stopped : {k : ℕ} {p : Vector} {r : Refused} → f ≡ Stopped p k → r ≡ refusalOf 8 p 0 k → AxisAsked look q s reach e n (AxisRefused r)
+  pub axis-stopped : {k : ℕ} {p : Vector} {r : Refused} → f ≡ Stopped p k → r ≡ refusalOf 8 p 0 k → AxisJudged look q s reach e f (AxisRefused r)
   unfolding isLevel
-  axis-stopped {k} {p} i l = record { gives = rw l (then-no _ (asked-no 0 (gave (lay s (minus e)) (Stopped p k) h (a ∙ ap (lay s) b) i))); few = omega (arith, h .few, ap looksOfFalls i, ap looksIn l) }
+  axis-stopped i l = record { gives = λ h. rw l (then-no _ (asked-no 0 (rw i at (h .gives)))); few = omega (arith, ap looksOfFalls i, ap looksIn l) }
 
-pub ruleset asking = (axis-fell, axis-kept, axis-stopped)
+pub ruleset judging-axis = (axis-fell, axis-kept, axis-stopped)
 
 -- ---- refusal 7, from the sum's parts
 pub is-opposed : {q s e w u p : Vector} {n : ℕ} {r : Refused} → w ≡ minus e → u ≡ lay s w → p ≡ q ⊕ u → r ≡ refusalOf 7 p 0 n → Opposed q s e n r
@@ -85,30 +88,47 @@ module _ {q s : Vector} (v : Levels) {n : ℕ} where
   judged-begun t = record { gives = then-yes _ (ensured (opposed q s unit0) (not-all v t)) at-once; few = omega arith }
 
 -- ---- the three axes
-module _ {look : Vector → Look} {q s : Vector} {reach n : ℕ} {a : Axis} (ha : AxisAsked look q s reach unit0 n a) where
+module _ (look : Vector → Look) (q s : Vector) (reach : ℕ) where
+  -- an axis, from its question and the judgement
+  record AxisAsked (e : Vector) (n : ℕ) (r : Axis) : Type 0 where
+    gives : Gives n (isLevel look q s (powers reach) e) (toldAxis r)
+    few : looksOfAxis r ≤ n + 1024
+
+  axis-asked : {e : Vector} {n : ℕ} {f : Falls} {a r : Axis} → MinusAsked look q s reach e n f → AxisJudged look q s reach e f a → a ≡ r → AxisAsked e n r
+  axis-asked h g i = record { gives = rw i at (g .gives h); few = omega (arith, h .few, g .few, ap looksOfAxis i) }
+
+pub axis-few : {look : Vector → Look} {q s e : Vector} {reach n : ℕ} {f : Falls} {a : Axis} {x : Bool} {i : ℕ} → MinusAsked look q s reach e n f → AxisJudged look q s reach e f a → a ≡ IsAsked x i → i ≤ n + 1024
+axis-few {look} {q} {s} {reach = reach} h g i = axis-asked look q s reach h g i .few
+
+module _ {look : Vector → Look} {q s : Vector} {reach n : ℕ} {f : Falls} {a : Axis} (hf : MinusAsked look q s reach unit0 n f) (ha : AxisJudged look q s reach unit0 f a) where
   pub first-refused : {r : Refused} → a ≡ AxisRefused r → AxesAsked look q s reach n (IsRefused r)
   unfolding axes
-  first-refused ea = record { gives = then-no _ (rw ea at (ha .gives)); few = omega (arith, rw ea at (ha .few)) }
+  first-refused ea = let x = axis-asked look q s reach hf ha ea in record { gives = then-no _ (x .gives); few = omega (arith, x .few) }
 
-  module _ {x : Bool} {i : ℕ} {b : Axis} (ea : a ≡ IsAsked x i) (hb : AxisAsked look q s reach unit1 i b) where
+  module _ {x : Bool} {i : ℕ} {g : Falls} {b : Axis} (ea : a ≡ IsAsked x i) (hg : MinusAsked look q s reach unit1 i g) (hb : AxisJudged look q s reach unit1 g b) where
     pub second-refused : {r : Refused} → b ≡ AxisRefused r → AxesAsked look q s reach n (IsRefused r)
     unfolding axes
-    second-refused eb = record { gives = then-yes _ (rw ea at (ha .gives)) (then-no _ (rw eb at (hb .gives))); few = omega (arith, rw ea at (ha .few), rw eb at (hb .few)) }
+    second-refused eb =
+        let x = axis-asked look q s reach hf ha ea in
+        let y = axis-asked look q s reach hg hb eb in
+        record { gives = then-yes _ (x .gives) (then-no _ (y .gives)); few = omega (arith, x .few, y .few) }
 
-    module _ {y : Bool} {j : ℕ} {c : Axis} (eb : b ≡ IsAsked y j) (hc : AxisAsked look q s reach unit2 j c) where
+    module _ {y : Bool} {j : ℕ} {h : Falls} {c : Axis} (eb : b ≡ IsAsked y j) (hh : MinusAsked look q s reach unit2 j h) (hc : AxisJudged look q s reach unit2 h c) where
       pub third-refused : {r : Refused} → c ≡ AxisRefused r → AxesAsked look q s reach n (IsRefused r)
       unfolding axes
-      third-refused ec = record {
-        gives = then-yes _ (rw ea at (ha .gives)) (then-yes _ (rw eb at (hb .gives)) (then-no _ (rw ec at (hc .gives))));
-        few = omega (arith, rw ea at (ha .few), rw eb at (hb .few), rw ec at (hc .few));
-      }
+      third-refused ec =
+          let x = axis-asked look q s reach hf ha ea in
+          let y = axis-asked look q s reach hg hb eb in
+          let z = axis-asked look q s reach hh hc ec in
+          record { gives = then-yes _ (x .gives) (then-yes _ (y .gives) (then-no _ (z .gives))); few = omega (arith, x .few, y .few, z .few) }
 
       pub axes-judged : {z : Bool} {k : ℕ} {r : Start} → c ≡ IsAsked z k → Judged q s (levels x y z) k r → AxesAsked look q s reach n r
       unfolding axes judging
-      axes-judged ec o = record {
-        gives = then-yes _ (rw ea at (ha .gives)) (then-yes _ (rw eb at (hb .gives)) (then-yes _ (rw ec at (hc .gives)) (o .gives)));
-        few = omega (arith, rw ea at (ha .few), rw eb at (hb .few), rw ec at (hc .few), o .few);
-      }
+      axes-judged ec o =
+          let x = axis-asked look q s reach hf ha ea in
+          let y = axis-asked look q s reach hg hb eb in
+          let z = axis-asked look q s reach hh hc ec in
+          record { gives = then-yes _ (x .gives) (then-yes _ (y .gives) (then-yes _ (z .gives) (o .gives))); few = omega (arith, x .few, y .few, z .few, o .few) }
 
 pub ruleset in-turn = (first-refused, second-refused, third-refused, axes-judged)
 

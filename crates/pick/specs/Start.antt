@@ -12,7 +12,9 @@ use Rattle.rules.specs.Solids.{look}
 use Rattle.rules.specs.Asked.{Asked, answered, _>>=_, _>>_}
 use Rattle.rules.specs.Walk.{Stop, stop, ensure, asked, powers, allLevel, falls, isLevel, axes, start}
 use Rattle.falls.specs.declared.Scene.{Scene}
+use Rattle.falls.specs.declared.Falls.{Falls}
 use Rattle.falls.specs.Tally.{Tally, yes, Gives}
+use Rattle.falls.specs.Falls.{told as toldFalls, looksOf as looksOfFalls}
 use Rattle.walk.specs.Walk.{refusalOf, toldRefusal}
 use Rattle.pick.specs.declared.Axis.{Axis}
 use Rattle.pick.specs.declared.Axis.the-variants.{Asked as IsAsked, Refused as AxisRefused}
@@ -60,13 +62,18 @@ module _ (look : Vector → Look) (q s : Vector) (reach : ℕ) where
     ensure (not g) (opposed q s e)
     answered true []
 
+  pub record MinusAsked (e : Vector) (looks : ℕ) (r : Falls) : Type 0 where
+    pub gives : Gives looks (falls look q (lay s (minus e)) (powers reach)) (toldFalls r)
+    pub few : looksOfFalls r ≤ looks + 512
+
   pub record OppositeAsked (e : Vector) (looks : ℕ) (r : Axis) : Type 0 where
     pub gives : Gives looks (opposite e) (toldAxis r)
     pub few : looksOfAxis r ≤ looks + 512
 
-  pub record AxisAsked (e : Vector) (looks : ℕ) (r : Axis) : Type 0 where
-    pub gives : Gives looks (isLevel look q s (powers reach) e) (toldAxis r)
-    pub few : looksOfAxis r ≤ looks + 1024
+  -- once minus the unit vector e was asked, with the answer f
+  pub record AxisJudged (e : Vector) (f : Falls) (r : Axis) : Type 0 where
+    pub gives : {looks : ℕ} → MinusAsked e looks f → Gives looks (isLevel look q s (powers reach) e) (toldAxis r)
+    pub few : looksOfAxis r ≤ looksOfFalls f + 512
 
   pub record AxesAsked (looks : ℕ) (r : Start) : Type 0 where
     pub gives : Gives looks (axes look q s (powers reach)) (told r)
@@ -80,11 +87,14 @@ module _ (look : Vector → Look) (q s : Vector) (reach : ℕ) where
 abbrev pub OpposedIn : Scene → Vector → ℕ → Refused → Type 0
 OpposedIn v e looks r = Opposed (v .apex) (v .signs) e looks r
 
+abbrev pub MinusAskedIn : Scene → List ℕ → Vector → ℕ → Falls → Type 0
+MinusAskedIn v bytes e looks r = MinusAsked (look (v .solid) bytes) (v .apex) (v .signs) (v .reach) e looks r
+
 abbrev pub OppositeAskedIn : Scene → List ℕ → Vector → ℕ → Axis → Type 0
 OppositeAskedIn v bytes e looks r = OppositeAsked (look (v .solid) bytes) (v .apex) (v .signs) (v .reach) e looks r
 
-abbrev pub AxisAskedIn : Scene → List ℕ → Vector → ℕ → Axis → Type 0
-AxisAskedIn v bytes e looks r = AxisAsked (look (v .solid) bytes) (v .apex) (v .signs) (v .reach) e looks r
+abbrev pub AxisJudgedIn : Scene → List ℕ → Vector → Falls → Axis → Type 0
+AxisJudgedIn v bytes e f r = AxisJudged (look (v .solid) bytes) (v .apex) (v .signs) (v .reach) e f r
 
 abbrev pub JudgedIn : Scene → Levels → ℕ → Start → Type 0
 JudgedIn v level looks r = Judged (v .apex) (v .signs) level looks r

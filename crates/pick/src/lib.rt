@@ -7,8 +7,9 @@ ghost use Rattle.laws.specs.Ranges.{Bounded};
 ghost use Rattle.solid.specs.Asks.{Permitted};
 ghost use Rattle.laws.specs.Frames.{Signs};
 ghost use Rattle.falls.specs.Scene.{Ready};
+ghost use Rattle.falls.specs.Falls.{looksOf};
 ghost use Rattle.round.specs.Round.{Sound};
-ghost use Rattle.pick.specs.Start.{OpposedIn, OppositeAskedIn, AxisAskedIn, JudgedIn, AxesAskedIn, StartedIn};
+ghost use Rattle.pick.specs.Start.{OpposedIn, MinusAskedIn, OppositeAskedIn, AxisJudgedIn, JudgedIn, AxesAskedIn, StartedIn};
 ghost use Rattle.pick.specs.Pick.{layTriangle, EndedIn, RoundedIn, BegunIn, Placed, Picked};
 use falls::Falls;
 use falls::Scene;
@@ -67,7 +68,18 @@ fn refuse_axis(scene: Scene, e: Vector, looks: u32) -> Refused
     walk::refusal(7, space::add(q, u), 0, looks)
 }
 
-// Minus the unit vector e doesn't fall, so e is asked too: refusal 7 if it falls, else the axis is level.
+// Whether minus the unit vector e falls.
+fn ask_minus(scene: Scene, bytes: &[u8], e: Vector, looks: u32) -> Falls
+    requires { ⌜ Ready scene (now bytes) × Bounded 1 e × (looks ≤ 4000) ⌝ }
+    ensures { λ r. ⌜ MinusAskedIn scene (now (bytes .entry)) e looks r ⌝ }
+{
+    let s = scene.signs;
+    let down = space::negate(e);
+    let u = space::lay(s, down);
+    falls::ask_falls(scene, bytes, u, looks)
+}
+
+// Minus the unit vector e doesn't fall, so its opposite is asked too: refusal 7 if that falls, else the axis is level.
 fn ask_opposite(scene: Scene, bytes: &[u8], e: Vector, looks: u32) -> Axis
     requires { ⌜ Ready scene (now bytes) × Bounded 1 e × (looks ≤ 4000) ⌝ }
     ensures { λ r. ⌜ OppositeAskedIn scene (now (bytes .entry)) e looks r ⌝ }
@@ -85,16 +97,12 @@ fn ask_opposite(scene: Scene, bytes: &[u8], e: Vector, looks: u32) -> Axis
     }
 }
 
-// Whether the axis of the unit vector e is level.
-fn ask_axis(scene: Scene, bytes: &[u8], e: Vector, looks: u32) -> Axis
-    requires { ⌜ Ready scene (now bytes) × Bounded 1 e × (looks ≤ 3000) ⌝ }
-    ensures { λ r. ⌜ AxisAskedIn scene (now (bytes .entry)) e looks r ⌝ }
+// Whether the axis of the unit vector e is level, once minus e was asked.
+fn judge_axis(scene: Scene, bytes: &[u8], e: Vector, asked: Falls) -> Axis
+    requires { ⌜ Ready scene (now bytes) × Bounded 1 e × (looksOf asked ≤ 4000) ⌝ }
+    ensures { λ r. ⌜ AxisJudgedIn scene (now (bytes .entry)) e asked r ⌝ }
 {
-    let s = scene.signs;
-    let down = space::negate(e);
-    let u = space::lay(s, down);
-    let f = falls::ask_falls(scene, bytes, u, looks);
-    match f {
+    match asked {
         Falls::Fell(n) => Axis::Asked(false, n),
         Falls::Kept(n) => ask_opposite(scene, bytes, e, n),
         Falls::Stopped(p, n) => Axis::Refused(walk::refusal(8, p, 0, n)),
@@ -114,20 +122,23 @@ fn judge_levels(scene: Scene, level: Levels, looks: u32) -> Start
     }
 }
 
-// Axis 0, 1, 2, each with its opposite before the next.
+// Axis 0, 1, 2. A question and its judgement are two calls: so the questions are compiled in place, and a pick without level axes takes no longer than before there were any.
 fn ask_axes(scene: Scene, bytes: &[u8], looks: u32) -> Start
     requires { ⌜ Ready scene (now bytes) × (looks ≤ 2) ⌝ }
     ensures { λ r. ⌜ AxesAskedIn scene (now (bytes .entry)) looks r ⌝ }
 {
-    let a = ask_axis(scene, bytes, Vector { x: 1, y: 0, z: 0 }, looks);
+    let e0 = Vector { x: 1, y: 0, z: 0 };
+    let a = judge_axis(scene, bytes, e0, ask_minus(scene, bytes, e0, looks));
     match a {
         Axis::Refused(r) => Start::Refused(r),
         Axis::Asked(x, i) => {
-            let b = ask_axis(scene, bytes, Vector { x: 0, y: 1, z: 0 }, i);
+            let e1 = Vector { x: 0, y: 1, z: 0 };
+            let b = judge_axis(scene, bytes, e1, ask_minus(scene, bytes, e1, i));
             match b {
                 Axis::Refused(r) => Start::Refused(r),
                 Axis::Asked(y, j) => {
-                    let c = ask_axis(scene, bytes, Vector { x: 0, y: 0, z: 1 }, j);
+                    let e2 = Vector { x: 0, y: 0, z: 1 };
+                    let c = judge_axis(scene, bytes, e2, ask_minus(scene, bytes, e2, j));
                     match c {
                         Axis::Refused(r) => Start::Refused(r),
                         Axis::Asked(z, k) => {

@@ -1,29 +1,43 @@
 -- `pick::ask_axes` meets its contract: axis by axis, each with the rest that its answer leaves.
-use mathlib.Core.Path.{ap}
+use Prim.Native.Nat.{_≤_}
 use native.Mathlib.Omega.{arith}
 use borrow.Author.Needs.{needs}
 use Rattle.falls.proofs.Scenes.{apex-fits}
-use Rattle.pick.specs.Start.{looksOfAxis}
-use Rattle.pick.proofs.Axes.{in-turn}
+use Rattle.pick.proofs.Axes.{axis-few, in-turn}
 use Rattle.pick.proofs.ask_axes.Statement.{statement}
 use Rattle.pick.proofs.ask_axes.Tie as tie
 
-ask-axis-requires-2 : tie.Need-ask-axis-requires-2
-ask-axis-requires-2 c κs =
+ask-minus-requires-2 : tie.Need-ask-minus-requires-2
+ask-minus-requires-2 c κs =
     let a = c .before .before .before in
-    let s = a .before .before in
-    (s .pre .0, search needs, omega (arith, s .pre .1, a .ask-axis .ensures .few, ap looksOfAxis (c .before .a2 .given .1)))
+    let s = a .before .before .before in
+    (s .pre .0, search needs, omega (arith, s .pre .1, axis-few (a .before .ask-minus .ensures) (a .judge-axis .ensures) (c .before .a2 .given .1)))
 
-ask-axis-requires-3 : tie.Need-ask-axis-requires-3
-ask-axis-requires-3 c κs =
+judge-axis-requires-2 : tie.Need-judge-axis-requires-2
+judge-axis-requires-2 c κs =
+    let a = c .before .before .before .before in
+    let s = a .before .before .before in
+    (s .pre .0, search needs, omega (arith, s .pre .1, axis-few (a .before .ask-minus .ensures) (a .judge-axis .ensures) (c .before .before .a2 .given .1), c .ask-minus2 .ensures .few))
+
+ask-minus-requires-3 : tie.Need-ask-minus-requires-3
+ask-minus-requires-3 c κs =
     let b = c .before .before .before in
-    let a = b .before .before .before .before in
-    let s = a .before .before in
-    (s .pre .0, search needs, omega (arith, s .pre .1, a .ask-axis .ensures .few, ap looksOfAxis (b .before .before .a2 .given .1), b .ask-axis2 .ensures .few, ap looksOfAxis (c .before .b2 .given .1)))
+    let d = b .before .before .before in
+    let a = d .before .before in
+    let s = a .before .before .before in
+    (s .pre .0, search needs, omega (arith, s .pre .1, axis-few (a .before .ask-minus .ensures) (a .judge-axis .ensures) (d .a2 .given .1), axis-few (b .before .ask-minus2 .ensures) (b .judge-axis2 .ensures) (c .before .b2 .given .1)))
+
+judge-axis-requires-3 : tie.Need-judge-axis-requires-3
+judge-axis-requires-3 c κs =
+    let b = c .before .before .before .before in
+    let d = b .before .before .before in
+    let a = d .before .before in
+    let s = a .before .before .before in
+    (s .pre .0, search needs, omega (arith, s .pre .1, axis-few (a .before .ask-minus .ensures) (a .judge-axis .ensures) (d .a2 .given .1), axis-few (b .before .ask-minus2 .ensures) (b .judge-axis2 .ensures) (c .before .before .b2 .given .1), c .ask-minus3 .ensures .few))
 
 judge-levels-requires : tie.Need-judge-levels-requires
 judge-levels-requires c κs =
-    let s = c .before .before .before .before .before .before .before .before .before .before .before .before .before in
+    let s = c .before .before .before .before .before .before .before .before .before .before .before .before .before .before .before .before in
     (apex-fits (s .pre .0), s .pre .0 .signed)
 
 pub ask-axes-spec : {M : Type 1} → statement M
@@ -31,12 +45,15 @@ ask-axes-spec =
     tie.close
     (tie.spec
     (λ c κs. search needs)
+    (λ c κs. (c .before .before .pre .0, search needs, omega (arith, c .ask-minus .ensures .few)))
     (λ c. search needs)
     (λ c. search needs)
-    ask-axis-requires-2
+    ask-minus-requires-2
+    judge-axis-requires-2
     (λ c. search needs)
     (λ c. search needs)
-    ask-axis-requires-3
+    ask-minus-requires-3
+    judge-axis-requires-3
     (λ c. search needs)
     (λ c. search needs)
     judge-levels-requires
