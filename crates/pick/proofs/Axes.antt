@@ -1,14 +1,16 @@
--- The axes, one by one: one that does not fall is refusal 7, a point outside refusal 8.
-use mathlib.Core.Path.{_≡_, refl, sym, ap, _∙_}
-use mathlib.Core.List.{List, [], _∷_}
-use Prim.Native.Nat.{ℕ}
+-- The axes, one by one: minus the unit vector, and only if it does not fall its opposite. An opposite that falls is refusal 7, a point outside refusal 8;
+-- all three level is refusal 7 too.
+use mathlib.Core.Path.{_≡_, refl, ap, _∙_}
+use mathlib.Core.Bool.{Bool, true, false, not, _&&_}
+use Prim.Native.Nat.{ℕ, _+_, _≤_}
 use native.Mathlib.Omega.{arith}
 use lib.Dec.{lit≤}
 use Rattle.rules.specs.declared.Vector.{Vector}
 use Rattle.rules.specs.declared.Look.{Look}
+use Rattle.rules.specs.declared.Levels.{Levels}
 use Rattle.rules.specs.declared.Refused.{Refused}
 use Rattle.rules.specs.Vectors.{_⊕_, minus, lay, unit0, unit1, unit2}
-use Rattle.rules.specs.Walk.{stop, powers, falls, axes}
+use Rattle.rules.specs.Walk.{powers, levels, allLevel, falls, isLevel, axes}
 use Rattle.falls.specs.Tally.{Gives}
 use Rattle.falls.specs.declared.Falls.{Falls}
 use Rattle.falls.specs.declared.Falls.the-variants.{Fell, Kept, Stopped}
@@ -19,71 +21,128 @@ use Rattle.falls.specs.Falls.{Fallen, told as toldFalls, looksOf as looksOfFall
 use Rattle.falls.proofs.Scenes.{signs-bounded}
 use Rattle.walk.specs.Walk.{refusalOf}
 use Rattle.falls.proofs.Tallies.{then-yes, then-no, asked-yes, asked-no, ensured, not-ensured, at-once}
-use Rattle.pick.specs.Start.{told, looksOf, rest, AxisAsked, AxesAsked}
+use Rattle.pick.specs.Start.{opposed, judging, opposite, Opposed, Judged, MinusAsked, OppositeAsked, AxisJudged, AxesAsked, toldAxis, looksOfAxis}
+use Rattle.pick.specs.declared.Axis.{Axis}
+use Rattle.pick.specs.declared.Axis.the-variants.{Asked as IsAsked, Refused as AxisRefused}
 use Rattle.pick.specs.declared.Start.{Start}
 use Rattle.pick.specs.declared.Start.the-variants.{Begun, Refused as IsRefused}
 
-module _ (look : Vector → Look) (q s : Vector) (reach : ℕ) (e : Vector) where
-  -- what the axis's answer makes of the start
-  judged : Falls → Start
-  judged (Fell k) = Begun k
-  judged (Kept k) = IsRefused record { number = 7; place = q ⊕ lay s (minus e); steps = 0; looks = k }
-  judged (Stopped p k) = IsRefused record { number = 8; place = p; steps = 0; looks = k }
+abbrev looksIn : Refused → ℕ
+looksIn r = r .looks
 
-  rest-is : (n : ℕ) (es : List Vector) (f : Falls) → Gives n (falls look q (lay s (minus e)) (powers reach)) (toldFalls f) → rest look q s reach es (judged f) ≡ rest look q s reach (e ∷ es) (Begun n)
-  unfolding judged axes
-  rest-is n es (Fell k) h = then-yes _ (asked-yes 0 h) (then-yes _ (ensured (stop 7 (q ⊕ lay s (minus e)) 0) refl) record { is = refl }) .is
-  rest-is n es (Kept k) h = then-yes _ (asked-yes 0 h) (then-no _ (not-ensured refl)) .is
-  rest-is n es (Stopped p k) h = then-no _ (asked-no 0 h) .is
+-- what the falls question gave, of the vector w, once its answer is known
+gave : (w : Vector) {look : Vector → Look} {q u : Vector} {reach n : ℕ} {f : Falls} (g : Falls) → Fallen look q u reach n f → u ≡ w → f ≡ g → Gives n (falls look q w (powers reach)) (toldFalls g)
+gave w g h a i = rw (← a, ← i) (h .gives)
 
-  judged-looks : (f : Falls) → looksOf (judged f) ≡ looksOfFalls f
-  unfolding judged
-  judged-looks (Fell k) = refl
-  judged-looks (Kept k) = refl
-  judged-looks (Stopped p k) = refl
+-- ---- the opposite, from what the falls question promised
+module _ {look : Vector → Look} {q s : Vector} {reach : ℕ} {e : Vector} {n : ℕ} {f : Falls} {u : Vector} (h : Fallen look q u reach n f) (a : u ≡ lay s e) where
+  pub opposite-fell : {k : ℕ} {r : Refused} → f ≡ Fell k → Opposed q s e k r → OppositeAsked look q s reach e n (AxisRefused r)
+  unfolding opposite
+  opposite-fell {k} i l = record { gives = rw (l .is) (then-yes _ (asked-yes 0 (gave (lay s e) (Fell k) h a i)) (then-no _ (not-ensured refl))); few = omega (arith, h .few, ap looksOfFalls i, ap looksIn (l .is)) }
 
--- ---- one axis, from what the falls question promised to what one axis more promises
-module _ {look : Vector → Look} {q s : Vector} {reach : ℕ} {e : Vector} {before : Start} where
-  pub axis-halted : {a : Refused} → before ≡ IsRefused a → AxisAsked look q s reach e before (IsRefused a)
-  axis-halted g = record { is = λ es. sym (ap (rest look q s reach (e ∷ es)) g); few = omega (arith, ap looksOf g) }
+  pub opposite-kept : {k : ℕ} → f ≡ Kept k → OppositeAsked look q s reach e n (IsAsked true k)
+  unfolding opposite
+  opposite-kept {k} i = record { gives = then-yes _ (asked-yes 0 (gave (lay s e) (Kept k) h a i)) (then-yes _ (ensured (opposed q s e) refl) at-once); few = omega (arith, h .few, ap looksOfFalls i) }
 
-  module _ {n : ℕ} {f : Falls} {u w : Vector} (h : Fallen look q u reach n f) (a : u ≡ lay s w) (b : w ≡ minus e) (g : before ≡ Begun n) where
-    axis-by : {r : Start} → r ≡ judged look q s reach e f → AxisAsked look q s reach e before r
-    axis-by {r} k = record {
-      is = λ es. ap (rest look q s reach es) k ∙ rest-is look q s reach e n es f (rw (← b, ← a) (h .gives)) ∙ sym (ap (rest look q s reach (e ∷ es)) g);
-      few = omega (arith, h .few, ap looksOf k, judged-looks look q s reach e f, ap looksOf g);
-    }
+  pub opposite-stopped : {k : ℕ} {p : Vector} {r : Refused} → f ≡ Stopped p k → r ≡ refusalOf 8 p 0 k → OppositeAsked look q s reach e n (AxisRefused r)
+  unfolding opposite
+  opposite-stopped {k} {p} i l = record { gives = rw l (then-no _ (asked-no 0 (gave (lay s e) (Stopped p k) h a i))); few = omega (arith, h .few, ap looksOfFalls i, ap looksIn l) }
 
-    pub axis-fell : {k : ℕ} → f ≡ Fell k → AxisAsked look q s reach e before (Begun k)
-    unfolding judged
-    axis-fell i = axis-by (sym (ap (judged look q s reach e) i))
+pub ruleset opposing = (opposite-fell, opposite-kept, opposite-stopped)
 
-    pub axis-kept : {k : ℕ} {p : Vector} {r : Refused} → f ≡ Kept k → p ≡ q ⊕ u → r ≡ refusalOf 7 p 0 k → AxisAsked look q s reach e before (IsRefused r)
-    unfolding judged
-    axis-kept {k} i j l = axis-by (ap IsRefused (l ∙ ap (λ (p : Vector). refusalOf 7 p 0 k) (j ∙ ap (λ (v : Vector). q ⊕ v) (a ∙ ap (lay s) b))) ∙ sym (ap (judged look q s reach e) i))
+-- ---- one axis, from what the question of minus its unit vector gave
+pub minus-asked : {look : Vector → Look} {q s : Vector} {reach : ℕ} {e : Vector} {n : ℕ} {f : Falls} {u w : Vector} → w ≡ minus e → u ≡ lay s w → Fallen look q u reach n f → MinusAsked look q s reach e n f
+minus-asked b a h = record { gives = rw (← b, ← a) (h .gives); few = h .few }
 
-    pub axis-stopped : {k : ℕ} {p : Vector} {r : Refused} → f ≡ Stopped p k → r ≡ refusalOf 8 p 0 k → AxisAsked look q s reach e before (IsRefused r)
-    unfolding judged
-    axis-stopped i l = axis-by (ap IsRefused l ∙ sym (ap (judged look q s reach e) i))
+module _ {look : Vector → Look} {q s : Vector} {reach : ℕ} {e : Vector} {f : Falls} where
+  pub axis-fell : {k : ℕ} → f ≡ Fell k → AxisJudged look q s reach e f (IsAsked false k)
+  unfolding isLevel
+  axis-fell i = record { gives = λ h. then-yes _ (asked-yes 0 (rw i at (h .gives))) at-once; few = omega (arith, ap looksOfFalls i) }
 
-pub ruleset judging = (axis-halted, axis-fell, axis-kept, axis-stopped)
+  pub axis-kept : {k : ℕ} {r : Axis} → f ≡ Kept k → OppositeAsked look q s reach e k r → AxisJudged look q s reach e f r
+  unfolding isLevel opposite
+  axis-kept i o = record { gives = λ h. then-yes _ (asked-yes 0 (rw i at (h .gives))) (o .gives); few = omega (arith, ap looksOfFalls i, o .few) }
+
+  pub axis-stopped : {k : ℕ} {p : Vector} {r : Refused} → f ≡ Stopped p k → r ≡ refusalOf 8 p 0 k → AxisJudged look q s reach e f (AxisRefused r)
+  unfolding isLevel
+  axis-stopped i l = record { gives = λ h. rw l (then-no _ (asked-no 0 (rw i at (h .gives)))); few = omega (arith, ap looksOfFalls i, ap looksIn l) }
+
+pub ruleset judging-axis = (axis-fell, axis-kept, axis-stopped)
+
+-- ---- refusal 7, from the sum's parts
+pub is-opposed : {q s e w u p : Vector} {n : ℕ} {r : Refused} → w ≡ minus e → u ≡ lay s w → p ≡ q ⊕ u → r ≡ refusalOf 7 p 0 n → Opposed q s e n r
+is-opposed b a i l = record { is = rw (← b, ← a, ← i) l }
+
+-- ---- all three level, or not
+not-all : (v : Levels) {b : Bool} → (v .x && (v .y && v .z)) ≡ b → not (allLevel v) ≡ not b
+unfolding allLevel
+not-all v e = ap not e
+
+module _ {q s : Vector} (v : Levels) {n : ℕ} where
+  pub judged-level : {r : Refused} → (v .x && (v .y && v .z)) ≡ true → Opposed q s unit0 n r → Judged q s v n (IsRefused r)
+  unfolding judging
+  judged-level t l = record { gives = rw (l .is) (then-no _ (not-ensured (not-all v t))); few = omega (arith, ap looksIn (l .is)) }
+
+  pub judged-begun : (v .x && (v .y && v .z)) ≡ false → Judged q s v n (Begun v n)
+  unfolding judging
+  judged-begun t = record { gives = then-yes _ (ensured (opposed q s unit0) (not-all v t)) at-once; few = omega arith }
 
 -- ---- the three axes
-none-left : (look : Vector → Look) (q s : Vector) (reach : ℕ) (r : Start) → told r ≡ rest look q s reach [] r
-unfolding axes
-none-left look q s reach (Begun n) = at-once .is
-none-left look q s reach (IsRefused r) = refl
+module _ (look : Vector → Look) (q s : Vector) (reach : ℕ) where
+  -- an axis, from its question and the judgement
+  record AxisAsked (e : Vector) (n : ℕ) (r : Axis) : Type 0 where
+    gives : Gives n (isLevel look q s (powers reach) e) (toldAxis r)
+    few : looksOfAxis r ≤ n + 1024
 
-pub axes-asked : {look : Vector → Look} {q s : Vector} {reach n : ℕ} {a b c : Start} → AxisAsked look q s reach unit0 (Begun n) a → AxisAsked look q s reach unit1 a b → AxisAsked look q s reach unit2 b c → AxesAsked look q s reach n c
-axes-asked {look} {q} {s} {reach} {c = c} ha hb hc = record {
-  gives = record { is = none-left look q s reach c ∙ hc .is [] ∙ hb .is (unit2 ∷ []) ∙ ha .is (unit1 ∷ unit2 ∷ []) };
-  few = omega (arith, ha .few, hb .few, hc .few);
-}
+  axis-asked : {e : Vector} {n : ℕ} {f : Falls} {a r : Axis} → MinusAsked look q s reach e n f → AxisJudged look q s reach e f a → a ≡ r → AxisAsked e n r
+  axis-asked h g i = record { gives = rw i at (g .gives h); few = omega (arith, h .few, g .few, ap looksOfAxis i) }
 
--- ---- sizes
-module _ {s e w : Vector} (g : Signs s) (h : Bounded 1 e) (b : w ≡ minus e) where
-  pub axis-lay-fits : Bounded 1 s × Bounded 1000000000 w
-  axis-lay-fits = (signs-bounded g, bounded-is b (bounded-wider (bounded-opposite h) (lit≤ tt)))
+pub axis-few : {look : Vector → Look} {q s e : Vector} {reach n : ℕ} {f : Falls} {a : Axis} {x : Bool} {i : ℕ} → MinusAsked look q s reach e n f → AxisJudged look q s reach e f a → a ≡ IsAsked x i → i ≤ n + 1024
+axis-few {look} {q} {s} {reach = reach} h g i = axis-asked look q s reach h g i .few
 
-  pub axis-bounded : {u : Vector} → u ≡ lay s w → Bounded 1 u
-  axis-bounded a = bounded-is a (bounded-lay (signs-bounded g) (bounded-is b (bounded-opposite h)))
+module _ {look : Vector → Look} {q s : Vector} {reach n : ℕ} {f : Falls} {a : Axis} (hf : MinusAsked look q s reach unit0 n f) (ha : AxisJudged look q s reach unit0 f a) where
+  pub first-refused : {r : Refused} → a ≡ AxisRefused r → AxesAsked look q s reach n (IsRefused r)
+  unfolding axes
+  first-refused ea = let x = axis-asked look q s reach hf ha ea in record { gives = then-no _ (x .gives); few = omega (arith, x .few) }
+
+  module _ {x : Bool} {i : ℕ} {g : Falls} {b : Axis} (ea : a ≡ IsAsked x i) (hg : MinusAsked look q s reach unit1 i g) (hb : AxisJudged look q s reach unit1 g b) where
+    pub second-refused : {r : Refused} → b ≡ AxisRefused r → AxesAsked look q s reach n (IsRefused r)
+    unfolding axes
+    second-refused eb =
+        let x = axis-asked look q s reach hf ha ea in
+        let y = axis-asked look q s reach hg hb eb in
+        record { gives = then-yes _ (x .gives) (then-no _ (y .gives)); few = omega (arith, x .few, y .few) }
+
+    module _ {y : Bool} {j : ℕ} {h : Falls} {c : Axis} (eb : b ≡ IsAsked y j) (hh : MinusAsked look q s reach unit2 j h) (hc : AxisJudged look q s reach unit2 h c) where
+      pub third-refused : {r : Refused} → c ≡ AxisRefused r → AxesAsked look q s reach n (IsRefused r)
+      unfolding axes
+      third-refused ec =
+          let x = axis-asked look q s reach hf ha ea in
+          let y = axis-asked look q s reach hg hb eb in
+          let z = axis-asked look q s reach hh hc ec in
+          record { gives = then-yes _ (x .gives) (then-yes _ (y .gives) (then-no _ (z .gives))); few = omega (arith, x .few, y .few, z .few) }
+
+      pub axes-judged : {z : Bool} {k : ℕ} {r : Start} → c ≡ IsAsked z k → Judged q s (levels x y z) k r → AxesAsked look q s reach n r
+      unfolding axes judging
+      axes-judged ec o =
+          let x = axis-asked look q s reach hf ha ea in
+          let y = axis-asked look q s reach hg hb eb in
+          let z = axis-asked look q s reach hh hc ec in
+          record { gives = then-yes _ (x .gives) (then-yes _ (y .gives) (then-yes _ (z .gives) (o .gives))); few = omega (arith, x .few, y .few, z .few, o .few) }
+
+pub ruleset in-turn = (first-refused, second-refused, third-refused, axes-judged)
+
+-- ---- sizes of a unit vector, its opposite, and either laid in
+pub unit-fits : {e : Vector} → Bounded 1 e → Bounded 1000000000 e
+unit-fits h = bounded-wider h (lit≤ tt)
+
+pub unit-way : {e : Vector} → Bounded 1 e → Bounded 2046 e
+unit-way h = bounded-wider h (lit≤ tt)
+
+pub opposite-unit : {e w : Vector} → Bounded 1 e → w ≡ minus e → Bounded 1 w
+opposite-unit h b = bounded-is b (bounded-opposite h)
+
+pub laid-unit : {s e u : Vector} → Signs s → Bounded 1 e → u ≡ lay s e → Bounded 1 u
+laid-unit g h a = bounded-is a (bounded-lay (signs-bounded g) h)
+
+pub ruleset fitting = (signs-bounded, unit-fits, unit-way, opposite-unit, laid-unit)

@@ -13,7 +13,7 @@ use Rattle.rules.specs.declared.Pick.the-variants.{Accepted, Refused}
 use Rattle.rules.specs.Vectors.{vector, _⊕_, _⊖_, minus, scale, dot, cross, det, sphere, lay, size, origin}
 use Rattle.rules.specs.Solids.{between, permittedWedge, filledWedge, inBox, look}
 use Rattle.rules.specs.Asked.{after, _>>=_}
-use Rattle.rules.specs.Walk.{ensure, sign, signs, seen, asked, powersFrom, powers, units, normal, determinant, inside, anyInside, firstFree, choice, keep, lookAt, falls, axes, falling, round, walk, found, start, rounds}
+use Rattle.rules.specs.Walk.{ensure, sign, signs, seen, asked, powersFrom, powers, units, allLevel, keep, only, remaining, takesPart, levelled, normal, determinant, inside, anyInside, firstFree, choice, lookAt, falls, isLevel, axes, falling, round, walk, found, start, rounds}
 use Rattle.rules.specs.Pick.{isInside, pick, answer, pickOf, WedgePromise}
 
 abbrev pub normalOf : Pick → Vector
@@ -46,7 +46,7 @@ evaluated :
     (normalOf (pickOf (IsWedge w8) [] place (pos 1) (pos 8)) ≡ vector (negsuc 0) (pos 2) (pos 5))
     × (normal (triangleOf (pickOf (IsWedge w8) [] place (pos 1) (pos 8))) ≡ vector (pos 1) (negsuc 1) (negsuc 4))
     × (looksOf (pickOf (IsWedge turned) [] place (pos 0) (pos 8)) ≡ 95)
-unfolding _⊕_ _⊖_ minus scale dot cross det sphere lay size between permittedWedge filledWedge inBox look after _>>=_ ensure sign signs seen asked powersFrom powers normal determinant inside anyInside firstFree choice keep lookAt falls axes falling round walk found start rounds isInside pick answer pickOf
+unfolding _⊕_ _⊖_ minus scale dot cross det sphere lay size between permittedWedge filledWedge inBox look after _>>=_ ensure sign signs seen asked powersFrom powers allLevel keep only remaining takesPart levelled normal determinant inside anyInside firstFree choice lookAt falls isLevel axes falling round walk found start rounds isInside pick answer pickOf
 evaluated = (refl, refl, refl)
 
 -- the normal is not the sum of the cross products of the laid-in vectors: that one points inward

@@ -1,18 +1,20 @@
 // The pick: what is refused, in order, and the walk.
 ghost use mathlib.Core.Path.{_≡_};
 ghost use Prim.Native.Nat.{_≤_};
-ghost use Rattle.rules.specs.Walk.{sign, signs, normal};
+ghost use Rattle.rules.specs.Walk.{sign, signs, unlessLevel, levelled, normal};
 ghost use Rattle.rules.specs.Pick.{WedgePromise, StackPromise};
 ghost use Rattle.laws.specs.Ranges.{Bounded};
 ghost use Rattle.solid.specs.Asks.{Permitted};
 ghost use Rattle.laws.specs.Frames.{Signs};
 ghost use Rattle.falls.specs.Scene.{Ready};
+ghost use Rattle.falls.specs.Falls.{looksOf};
 ghost use Rattle.round.specs.Round.{Sound};
-ghost use Rattle.pick.specs.Start.{looksOf, AxisAskedIn, AxesAskedIn, StartedIn};
+ghost use Rattle.pick.specs.Start.{OpposedIn, MinusAskedIn, OppositeAskedIn, AxisJudgedIn, JudgedIn, AxesAskedIn, StartedIn};
 ghost use Rattle.pick.specs.Pick.{layTriangle, EndedIn, RoundedIn, BegunIn, Placed, Picked};
 use falls::Falls;
 use falls::Scene;
 use rules::Accepted;
+use rules::Levels;
 use rules::Look;
 use rules::Pick;
 use rules::Refused;
@@ -23,9 +25,15 @@ use rules::Vector;
 use rules::Wedge;
 use walk::Walked;
 
-// p is filled and q is not, and every axis asked so far falls, after so many looks; or a refusal.
+// Whether an axis is level, after so many looks; or a refusal.
+pub enum Axis {
+    Asked(bool, u32),
+    Refused(Refused),
+}
+
+// p is filled, q is not and some axis is not level: which are level, after so many looks; or a refusal.
 pub enum Start {
-    Begun(u32),
+    Begun(Levels, u32),
     Refused(Refused),
 }
 
@@ -48,35 +56,100 @@ fn signs_of(frame: u32) -> Vector
 
 // ---- the start
 
-// One axis more.
-fn ask_axis(scene: Scene, bytes: &[u8], e: Vector, sofar: Start) -> Start
-    requires { ⌜ Ready scene (now bytes) × Bounded 1 e × (looksOf sofar ≤ 1500) ⌝ }
-    ensures { λ r. ⌜ AxisAskedIn scene (now (bytes .entry)) e sofar r ⌝ }
+// Refusal 7: q less an axis's unit vector, laid in.
+fn refuse_axis(scene: Scene, e: Vector, looks: u32) -> Refused
+    requires { ⌜ Bounded 1000000000 (scene .apex) × Signs (scene .signs) × Bounded 1 e ⌝ }
+    ensures { λ r. ⌜ OpposedIn scene e looks r ⌝ }
 {
-    match sofar {
-        Start::Refused(r) => Start::Refused(r),
-        Start::Begun(n) => {
-            let s = scene.signs;
-            let q = scene.apex;
-            let u = space::lay(s, space::negate(e));
-            let f = falls::ask_falls(scene, bytes, u, n);
-            match f {
-                Falls::Fell(k) => Start::Begun(k),
-                Falls::Kept(k) => Start::Refused(walk::refusal(7, space::add(q, u), 0, k)),
-                Falls::Stopped(p, k) => Start::Refused(walk::refusal(8, p, 0, k)),
-            }
+    let q = scene.apex;
+    let s = scene.signs;
+    let down = space::negate(e);
+    let u = space::lay(s, down);
+    walk::refusal(7, space::add(q, u), 0, looks)
+}
+
+// Whether minus the unit vector e falls.
+fn ask_minus(scene: Scene, bytes: &[u8], e: Vector, looks: u32) -> Falls
+    requires { ⌜ Ready scene (now bytes) × Bounded 1 e × (looks ≤ 4000) ⌝ }
+    ensures { λ r. ⌜ MinusAskedIn scene (now (bytes .entry)) e looks r ⌝ }
+{
+    let s = scene.signs;
+    let down = space::negate(e);
+    let u = space::lay(s, down);
+    falls::ask_falls(scene, bytes, u, looks)
+}
+
+// Minus the unit vector e doesn't fall, so its opposite is asked too: refusal 7 if that falls, else the axis is level.
+fn ask_opposite(scene: Scene, bytes: &[u8], e: Vector, looks: u32) -> Axis
+    requires { ⌜ Ready scene (now bytes) × Bounded 1 e × (looks ≤ 4000) ⌝ }
+    ensures { λ r. ⌜ OppositeAskedIn scene (now (bytes .entry)) e looks r ⌝ }
+{
+    let s = scene.signs;
+    let u = space::lay(s, e);
+    let f = falls::ask_falls(scene, bytes, u, looks);
+    match f {
+        Falls::Fell(n) => {
+            let seven = refuse_axis(scene, e, n);
+            Axis::Refused(seven)
         }
+        Falls::Kept(n) => Axis::Asked(true, n),
+        Falls::Stopped(p, n) => Axis::Refused(walk::refusal(8, p, 0, n)),
     }
 }
 
+// Whether the axis of the unit vector e is level, once minus e was asked.
+fn judge_axis(scene: Scene, bytes: &[u8], e: Vector, asked: Falls) -> Axis
+    requires { ⌜ Ready scene (now bytes) × Bounded 1 e × (looksOf asked ≤ 4000) ⌝ }
+    ensures { λ r. ⌜ AxisJudgedIn scene (now (bytes .entry)) e asked r ⌝ }
+{
+    match asked {
+        Falls::Fell(n) => Axis::Asked(false, n),
+        Falls::Kept(n) => ask_opposite(scene, bytes, e, n),
+        Falls::Stopped(p, n) => Axis::Refused(walk::refusal(8, p, 0, n)),
+    }
+}
+
+// Refusal 7, with the place as for axis 0, if all three are level.
+fn judge_levels(scene: Scene, level: Levels, looks: u32) -> Start
+    requires { ⌜ Bounded 1000000000 (scene .apex) × Signs (scene .signs) ⌝ }
+    ensures { λ r. ⌜ JudgedIn scene level looks r ⌝ }
+{
+    if level.x & (level.y & level.z) {
+        let seven = refuse_axis(scene, Vector { x: 1, y: 0, z: 0 }, looks);
+        Start::Refused(seven)
+    } else {
+        Start::Begun(level, looks)
+    }
+}
+
+// Axis 0, 1, 2. A question and its judgement are two calls: so the questions are compiled in place, and a pick without level axes takes no longer than before there were any.
 fn ask_axes(scene: Scene, bytes: &[u8], looks: u32) -> Start
     requires { ⌜ Ready scene (now bytes) × (looks ≤ 2) ⌝ }
     ensures { λ r. ⌜ AxesAskedIn scene (now (bytes .entry)) looks r ⌝ }
 {
-    let begun = Start::Begun(looks);
-    let a = ask_axis(scene, bytes, Vector { x: 1, y: 0, z: 0 }, begun);
-    let b = ask_axis(scene, bytes, Vector { x: 0, y: 1, z: 0 }, a);
-    ask_axis(scene, bytes, Vector { x: 0, y: 0, z: 1 }, b)
+    let e0 = Vector { x: 1, y: 0, z: 0 };
+    let a = judge_axis(scene, bytes, e0, ask_minus(scene, bytes, e0, looks));
+    match a {
+        Axis::Refused(r) => Start::Refused(r),
+        Axis::Asked(x, i) => {
+            let e1 = Vector { x: 0, y: 1, z: 0 };
+            let b = judge_axis(scene, bytes, e1, ask_minus(scene, bytes, e1, i));
+            match b {
+                Axis::Refused(r) => Start::Refused(r),
+                Axis::Asked(y, j) => {
+                    let e2 = Vector { x: 0, y: 0, z: 1 };
+                    let c = judge_axis(scene, bytes, e2, ask_minus(scene, bytes, e2, j));
+                    match c {
+                        Axis::Refused(r) => Start::Refused(r),
+                        Axis::Asked(z, k) => {
+                            let level = Levels { x: x, y: y, z: z };
+                            judge_levels(scene, level, k)
+                        }
+                    }
+                }
+            }
+        }
+    }
 }
 
 // Look at p, then, if p is filled, q; then the axes.
@@ -130,15 +203,33 @@ fn lay_triangle(s: Vector, m: Triangle) -> Triangle
     round::make_triangle(a, b, c)
 }
 
+fn unless_level(level: bool, z: i32) -> i32
+    ensures { λ r. ⌜ r ≡ unlessLevel level z ⌝ }
+{
+    if level { 0 } else { z }
+}
+
+// The component of a level axis is 0.
+fn level_out(level: Levels, n: Vector) -> Vector
+    requires { ⌜ Bounded 1000000000 n ⌝ }
+    ensures { λ r. ⌜ r ≡ levelled level n ⌝ }
+{
+    let x = unless_level(level.x, n.x);
+    let y = unless_level(level.y, n.y);
+    let z = unless_level(level.z, n.z);
+    Vector { x: x, y: y, z: z }
+}
+
 // No pair falls.
-fn end_walk(scene: Scene, m: Triangle, steps: u32, looks: u32) -> Pick
+fn end_walk(scene: Scene, level: Levels, m: Triangle, steps: u32, looks: u32) -> Pick
     requires { ⌜ Sound m × Signs (scene .signs) ⌝ }
-    ensures { λ r. ⌜ EndedIn scene m steps looks r ⌝ }
+    ensures { λ r. ⌜ EndedIn scene level m steps looks r ⌝ }
 {
     let s = scene.signs;
     let q = scene.apex;
     let reach = scene.reach;
-    let n = normal_of(m);
+    let whole = normal_of(m);
+    let n = level_out(level, whole);
     let sum = space::size(n);
     if sum <= reach {
         let laid = space::lay(s, n);
@@ -155,13 +246,14 @@ fn end_walk(scene: Scene, m: Triangle, steps: u32, looks: u32) -> Pick
     }
 }
 
-fn ask_rounds(scene: Scene, bytes: &[u8], looks: u32) -> Pick
-    requires { ⌜ Ready scene (now bytes) × (looks ≤ 2000) ⌝ }
-    ensures { λ r. ⌜ RoundedIn scene (now (bytes .entry)) looks r ⌝ }
+// From a start with these level axes, after so many looks.
+fn ask_rounds(scene: Scene, bytes: &[u8], level: Levels, looks: u32) -> Pick
+    requires { ⌜ Ready scene (now bytes) × (looks ≤ 4000) ⌝ }
+    ensures { λ r. ⌜ RoundedIn scene (now (bytes .entry)) level looks r ⌝ }
 {
-    let w = walk::walk_on(scene, bytes, looks);
+    let w = walk::walk_on(scene, bytes, level, looks);
     match w {
-        Walked::Ended(m, steps, k) => end_walk(scene, m, steps, k),
+        Walked::Ended(m, steps, k) => end_walk(scene, level, m, steps, k),
         Walked::Refused(r) => Pick::Refused(r),
     }
 }
@@ -174,14 +266,14 @@ fn begin(scene: Scene, bytes: &[u8], p: Vector) -> Pick
 {
     let b = start_at(scene, bytes, p);
     match b {
-        Start::Begun(n) => ask_rounds(scene, bytes, n),
+        Start::Begun(level, n) => ask_rounds(scene, bytes, level, n),
         Start::Refused(r) => Pick::Refused(r),
     }
 }
 
 // p is judged before q is formed.
 fn place(solid: Solid, bytes: &[u8], p: Vector, frame: u32, reach: u32) -> Pick
-    requires { ⌜ Permitted solid (now bytes) × (3 ≤ reach) × (reach ≤ 256) ⌝ }
+    requires { ⌜ Permitted solid (now bytes) × (1 ≤ reach) × (reach ≤ 256) ⌝ }
     ensures { λ r. ⌜ Placed solid (now (bytes .entry)) p frame reach r ⌝ }
 {
     if solid::is_inside(solid, p) {
@@ -207,7 +299,7 @@ fn pick_solid(solid: Solid, bytes: &[u8], p: Vector, frame: i32, reach: i32) -> 
     ensures { λ r. ⌜ Picked solid (now (bytes .entry)) p frame reach r ⌝ }
 {
     let origin = Vector { x: 0, y: 0, z: 0 };
-    if solid::is_between(3, reach, 256) {
+    if solid::is_between(1, reach, 256) {
         if solid::is_between(0, frame, 7) {
             if solid::is_permitted(solid, bytes) {
                 place(solid, bytes, p, frame as u32, reach as u32)

@@ -14,8 +14,8 @@ module _ (c : tie.Then3) where
   frame-range : Range 0 7 (toZ w32 (ofZ w32 (c .before .before .before .before .before .before .before .args .frame)))
   frame-range = let d = c .before .before in range 0 7 _ (sym (d .before .is-between2 .ensures) ∙ d .if2 .taken)
 
-  reach-range : Range 3 256 (toZ w32 (ofZ w32 (c .before .before .before .before .before .before .before .args .reach)))
-  reach-range = let d = c .before .before .before .before in range 3 256 _ (sym (d .before .is-between .ensures) ∙ d .if1 .taken)
+  reach-range : Range 1 256 (toZ w32 (ofZ w32 (c .before .before .before .before .before .before .before .args .reach)))
+  reach-range = let d = c .before .before .before .before in range 1 256 _ (sym (d .before .is-between .ensures) ∙ d .if1 .taken)
 
 place-requires : tie.Need-place-requires
 place-requires c κs = (record { is = sym (c .before .is-permitted .ensures) ∙ c .if3 .taken }, reach-range c .at-least, reach-range c .at-most)
