@@ -1,6 +1,6 @@
 -- The axes, one by one: minus the unit vector, and only if it does not fall its opposite. An opposite that falls is refusal 7, a point outside refusal 8;
 -- all three level is refusal 7 too.
-use mathlib.Core.Path.{_≡_, refl, ap, _∙_}
+use mathlib.Core.Path.{_≡_, refl, ap}
 use mathlib.Core.Bool.{Bool, true, false, not, _&&_}
 use Prim.Native.Nat.{ℕ, _+_, _≤_}
 use native.Mathlib.Omega.{arith}
@@ -51,8 +51,8 @@ module _ {look : Vector → Look} {q s : Vector} {reach : ℕ} {e : Vector} {n :
 pub ruleset opposing = (opposite-fell, opposite-kept, opposite-stopped)
 
 -- ---- one axis, from what the question of minus its unit vector gave
-pub minus-asked : {look : Vector → Look} {q s : Vector} {reach : ℕ} {e : Vector} {n : ℕ} {f : Falls} {u w : Vector} → w ≡ minus e → u ≡ lay s w → Fallen look q u reach n f → MinusAsked look q s reach e n f
-minus-asked b a h = record { gives = rw (← b, ← a) (h .gives); few = h .few }
+pub minus-asked : {look : Vector → Look} {q s : Vector} {reach : ℕ} {e : Vector} {n : ℕ} {f : Falls} {u : Vector} → u ≡ lay s (minus e) → Fallen look q u reach n f → MinusAsked look q s reach e n f
+minus-asked a h = record { gives = rw a at (h .gives); few = h .few }
 
 module _ {look : Vector → Look} {q s : Vector} {reach : ℕ} {e : Vector} {f : Falls} where
   pub axis-fell : {k : ℕ} → f ≡ Fell k → AxisJudged look q s reach e f (IsAsked false k)
@@ -70,8 +70,8 @@ module _ {look : Vector → Look} {q s : Vector} {reach : ℕ} {e : Vector} {f :
 pub ruleset judging-axis = (axis-fell, axis-kept, axis-stopped)
 
 -- ---- refusal 7, from the sum's parts
-pub is-opposed : {q s e w u p : Vector} {n : ℕ} {r : Refused} → w ≡ minus e → u ≡ lay s w → p ≡ q ⊕ u → r ≡ refusalOf 7 p 0 n → Opposed q s e n r
-is-opposed b a i l = record { is = rw (← b, ← a, ← i) l }
+pub is-opposed : {q s e u p : Vector} {n : ℕ} {r : Refused} → u ≡ lay s (minus e) → p ≡ q ⊕ u → r ≡ refusalOf 7 p 0 n → Opposed q s e n r
+is-opposed a i l = record { is = rw (← a, ← i) l }
 
 -- ---- all three level, or not
 not-all : (v : Levels) {b : Bool} → (v .x && (v .y && v .z)) ≡ b → not (allLevel v) ≡ not b
@@ -145,4 +145,7 @@ opposite-unit h b = bounded-is b (bounded-opposite h)
 pub laid-unit : {s e u : Vector} → Signs s → Bounded 1 e → u ≡ lay s e → Bounded 1 u
 laid-unit g h a = bounded-is a (bounded-lay (signs-bounded g) h)
 
-pub ruleset fitting = (signs-bounded, unit-fits, unit-way, opposite-unit, laid-unit)
+pub laid-opposite : {s e u : Vector} → Signs s → Bounded 1 e → u ≡ lay s (minus e) → Bounded 1 u
+laid-opposite g h a = laid-unit g (bounded-opposite h) a
+
+pub ruleset fitting = (signs-bounded, unit-fits, unit-way, opposite-unit, laid-unit, laid-opposite)
