@@ -21,7 +21,7 @@ use Rattle.falls.specs.Falls.{Fallen, told as toldFalls, looksOf as looksOfFall
 use Rattle.falls.proofs.Scenes.{signs-bounded}
 use Rattle.walk.specs.Walk.{refusalOf}
 use Rattle.falls.proofs.Tallies.{then-yes, then-no, asked-yes, asked-no, ensured, not-ensured, at-once}
-use Rattle.pick.specs.Start.{opposed, judging, opposite, Opposed, Judged, MinusAsked, OppositeAsked, AxisJudged, AxesAsked, toldAxis, looksOfAxis}
+use Rattle.pick.specs.Start.{opposed, judging, opposite, Opposed, LevelsJudged, MinusAsked, OppositeAsked, AxisJudged, AxesAsked, toldAxis, looksOfAxis}
 use Rattle.pick.specs.declared.Axis.{Axis}
 use Rattle.pick.specs.declared.Axis.the-variants.{Asked as IsAsked, Refused as AxisRefused}
 use Rattle.pick.specs.declared.Start.{Start}
@@ -79,11 +79,11 @@ unfolding allLevel
 not-all v e = ap not e
 
 module _ {q s : Vector} (v : Levels) {n : ℕ} where
-  pub judged-level : {r : Refused} → (v .x && (v .y && v .z)) ≡ true → Opposed q s unit0 n r → Judged q s v n (IsRefused r)
+  pub judged-level : {r : Refused} → (v .x && (v .y && v .z)) ≡ true → Opposed q s unit0 n r → LevelsJudged q s v n (IsRefused r)
   unfolding judging
   judged-level t l = record { gives = rw (l .is) (then-no _ (not-ensured (not-all v t))); few = omega (arith, ap looksIn (l .is)) }
 
-  pub judged-begun : (v .x && (v .y && v .z)) ≡ false → Judged q s v n (Begun v n)
+  pub judged-begun : (v .x && (v .y && v .z)) ≡ false → LevelsJudged q s v n (Begun v n)
   unfolding judging
   judged-begun t = record { gives = then-yes _ (ensured (opposed q s unit0) (not-all v t)) at-once; few = omega arith }
 
@@ -122,7 +122,7 @@ module _ {look : Vector → Look} {q s : Vector} {reach n : ℕ} {f : Falls} {a 
           let z = axis-asked look q s reach hh hc ec in
           record { gives = then-yes _ (x .gives) (then-yes _ (y .gives) (then-no _ (z .gives))); few = omega (arith, x .few, y .few, z .few) }
 
-      pub axes-judged : {z : Bool} {k : ℕ} {r : Start} → c ≡ IsAsked z k → Judged q s (levels x y z) k r → AxesAsked look q s reach n r
+      pub axes-judged : {z : Bool} {k : ℕ} {r : Start} → c ≡ IsAsked z k → LevelsJudged q s (levels x y z) k r → AxesAsked look q s reach n r
       unfolding axes judging
       axes-judged ec o =
           let x = axis-asked look q s reach hf ha ea in

@@ -50,7 +50,7 @@ judging q s v = do
   ensure (not (allLevel v)) (opposed q s unit0)
   answered v []
 
-pub record Judged (q s : Vector) (v : Levels) (looks : ℕ) (r : Start) : Type 0 where
+pub record LevelsJudged (q s : Vector) (v : Levels) (looks : ℕ) (r : Start) : Type 0 where
   pub gives : Gives looks (judging q s v) (told r)
   pub few : looksOf r ≤ looks
 
@@ -96,8 +96,8 @@ OppositeAskedIn v bytes e looks r = OppositeAsked (look (v .solid) bytes) (v .ap
 abbrev pub AxisJudgedIn : Scene → List ℕ → Vector → Falls → Axis → Type 0
 AxisJudgedIn v bytes e f r = AxisJudged (look (v .solid) bytes) (v .apex) (v .signs) (v .reach) e f r
 
-abbrev pub JudgedIn : Scene → Levels → ℕ → Start → Type 0
-JudgedIn v level looks r = Judged (v .apex) (v .signs) level looks r
+abbrev pub LevelsJudgedIn : Scene → Levels → ℕ → Start → Type 0
+LevelsJudgedIn v level looks r = LevelsJudged (v .apex) (v .signs) level looks r
 
 abbrev pub AxesAskedIn : Scene → List ℕ → ℕ → Start → Type 0
 AxesAskedIn v bytes looks r = AxesAsked (look (v .solid) bytes) (v .apex) (v .signs) (v .reach) looks r

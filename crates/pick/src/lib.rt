@@ -10,7 +10,7 @@ ghost use Rattle.laws.specs.Frames.{Signs};
 ghost use Rattle.falls.specs.Scene.{Ready};
 ghost use Rattle.falls.specs.Falls.{looksOf};
 ghost use Rattle.round.specs.Round.{Sound};
-ghost use Rattle.pick.specs.Start.{OpposedIn, MinusAskedIn, OppositeAskedIn, AxisJudgedIn, JudgedIn, AxesAskedIn, StartedIn};
+ghost use Rattle.pick.specs.Start.{OpposedIn, MinusAskedIn, OppositeAskedIn, AxisJudgedIn, LevelsJudgedIn, AxesAskedIn, StartedIn};
 ghost use Rattle.pick.specs.Pick.{layTriangle, EndedIn, RoundedIn, BegunIn, Placed, Picked};
 use falls::Falls;
 use falls::Scene;
@@ -119,7 +119,7 @@ fn judge_axis(scene: Scene, bytes: &[u8], e: Vector, asked: Falls) -> Axis
 // Refusal 7, with the place as for axis 0, if all three are level.
 fn judge_levels(scene: Scene, level: Levels, looks: u32) -> Start
     requires { ⌜ Bounded 1000000000 (scene .apex) × Signs (scene .signs) ⌝ }
-    ensures { λ r. ⌜ JudgedIn scene level looks r ⌝ }
+    ensures { λ r. ⌜ LevelsJudgedIn scene level looks r ⌝ }
 {
     if level.x & (level.y & level.z) {
         let seven = refuse_axis(scene, Vector { x: 1, y: 0, z: 0 }, looks);
