@@ -21,7 +21,7 @@ use Rattle.falls.specs.Falls.{Fallen, told as toldFalls, looksOf as looksOfFall
 use Rattle.falls.proofs.Scenes.{signs-bounded}
 use Rattle.walk.specs.Walk.{refusalOf}
 use Rattle.falls.proofs.Tallies.{then-yes, then-no, asked-yes, asked-no, ensured, not-ensured, at-once}
-use Rattle.pick.specs.Start.{opposed, judging, opposite, Opposed, LevelsJudged, MinusAsked, OppositeAsked, AxisJudged, AxesAsked, toldAxis, looksOfAxis}
+use Rattle.pick.specs.Start.{axisRefusal, judging, opposite, Opposed, LevelsJudged, MinusAsked, OppositeAsked, AxisJudged, AxesAsked, toldAxis, looksOfAxis}
 use Rattle.pick.specs.declared.Axis.{Axis}
 use Rattle.pick.specs.declared.Axis.the-variants.{Asked as IsAsked, Refused as AxisRefused}
 use Rattle.pick.specs.declared.Start.{Start}
@@ -42,7 +42,7 @@ module _ {look : Vector → Look} {q s : Vector} {reach : ℕ} {e : Vector} {n :
 
   pub opposite-kept : {k : ℕ} → f ≡ Kept k → OppositeAsked look q s reach e n (IsAsked true k)
   unfolding opposite
-  opposite-kept {k} i = record { gives = then-yes _ (asked-yes 0 (gave (lay s e) (Kept k) h a i)) (then-yes _ (ensured (opposed q s e) refl) at-once); few = omega (arith, h .few, ap looksOfFalls i) }
+  opposite-kept {k} i = record { gives = then-yes _ (asked-yes 0 (gave (lay s e) (Kept k) h a i)) (then-yes _ (ensured (axisRefusal q s e) refl) at-once); few = omega (arith, h .few, ap looksOfFalls i) }
 
   pub opposite-stopped : {k : ℕ} {p : Vector} {r : Refused} → f ≡ Stopped p k → r ≡ refusalOf 8 p 0 k → OppositeAsked look q s reach e n (AxisRefused r)
   unfolding opposite
@@ -85,7 +85,7 @@ module _ {q s : Vector} (v : Levels) {n : ℕ} where
 
   pub judged-begun : (v .x && (v .y && v .z)) ≡ false → LevelsJudged q s v n (Begun v n)
   unfolding judging
-  judged-begun t = record { gives = then-yes _ (ensured (opposed q s unit0) (not-all v t)) at-once; few = omega arith }
+  judged-begun t = record { gives = then-yes _ (ensured (axisRefusal q s unit0) (not-all v t)) at-once; few = omega arith }
 
 -- ---- the three axes
 module _ (look : Vector → Look) (q s : Vector) (reach : ℕ) where

@@ -38,8 +38,8 @@ looksOf (Begun v n) = n
 looksOf (IsRefused r) = r .looks
 
 -- refusal 7 for the axis of the unit vector e: q less it, laid in
-abbrev pub opposed : Vector → Vector → Vector → Stop
-opposed q s e = stop 7 (q ⊕ lay s (minus e)) 0
+abbrev pub axisRefusal : Vector → Vector → Vector → Stop
+axisRefusal q s e = stop 7 (q ⊕ lay s (minus e)) 0
 
 pub record Opposed (q s e : Vector) (looks : ℕ) (r : Refused) : Type 0 where
   pub is : r ≡ refusalOf 7 (q ⊕ lay s (minus e)) 0 looks
@@ -47,7 +47,7 @@ pub record Opposed (q s e : Vector) (looks : ℕ) (r : Refused) : Type 0 where
 -- once the axes are asked
 unfoldable pub judging : Vector → Vector → Levels → Asked Stop Levels
 judging q s v = do
-  ensure (not (allLevel v)) (opposed q s unit0)
+  ensure (not (allLevel v)) (axisRefusal q s unit0)
   answered v []
 
 pub record LevelsJudged (q s : Vector) (v : Levels) (looks : ℕ) (r : Start) : Type 0 where
@@ -59,7 +59,7 @@ module _ (look : Vector → Look) (q s : Vector) (reach : ℕ) where
   unfoldable pub opposite : Vector → Asked Stop Bool
   opposite e = do
     g ← asked 0 (falls look q (lay s e) (powers reach))
-    ensure (not g) (opposed q s e)
+    ensure (not g) (axisRefusal q s e)
     answered true []
 
   pub record MinusAsked (e : Vector) (looks : ℕ) (r : Falls) : Type 0 where
