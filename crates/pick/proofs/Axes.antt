@@ -1,6 +1,6 @@
 -- The axes, one by one: minus the unit vector, and only if it does not fall its opposite. An opposite that falls is refusal 7, a point outside refusal 8;
 -- all three level is refusal 7 too.
-use mathlib.Core.Path.{_≡_, refl, ap, _∙_}
+use mathlib.Core.Path.{_≡_, refl, ap}
 use mathlib.Core.Bool.{Bool, true, false, not, _&&_}
 use Prim.Native.Nat.{ℕ, _+_, _≤_}
 use native.Mathlib.Omega.{arith}
@@ -21,7 +21,7 @@ use Rattle.falls.specs.Falls.{Fallen, told as toldFalls, looksOf as looksOfFall
 use Rattle.falls.proofs.Scenes.{signs-bounded}
 use Rattle.walk.specs.Walk.{refusalOf}
 use Rattle.falls.proofs.Tallies.{then-yes, then-no, asked-yes, asked-no, ensured, not-ensured, at-once}
-use Rattle.pick.specs.Start.{opposed, judging, opposite, Opposed, Judged, MinusAsked, OppositeAsked, AxisJudged, AxesAsked, toldAxis, looksOfAxis}
+use Rattle.pick.specs.Start.{axisRefusal, judging, opposite, Opposed, LevelsJudged, MinusAsked, OppositeAsked, AxisJudged, AxesAsked, toldAxis, looksOfAxis}
 use Rattle.pick.specs.declared.Axis.{Axis}
 use Rattle.pick.specs.declared.Axis.the-variants.{Asked as IsAsked, Refused as AxisRefused}
 use Rattle.pick.specs.declared.Start.{Start}
@@ -42,7 +42,7 @@ module _ {look : Vector → Look} {q s : Vector} {reach : ℕ} {e : Vector} {n :
 
   pub opposite-kept : {k : ℕ} → f ≡ Kept k → OppositeAsked look q s reach e n (IsAsked true k)
   unfolding opposite
-  opposite-kept {k} i = record { gives = then-yes _ (asked-yes 0 (gave (lay s e) (Kept k) h a i)) (then-yes _ (ensured (opposed q s e) refl) at-once); few = omega (arith, h .few, ap looksOfFalls i) }
+  opposite-kept {k} i = record { gives = then-yes _ (asked-yes 0 (gave (lay s e) (Kept k) h a i)) (then-yes _ (ensured (axisRefusal q s e) refl) at-once); few = omega (arith, h .few, ap looksOfFalls i) }
 
   pub opposite-stopped : {k : ℕ} {p : Vector} {r : Refused} → f ≡ Stopped p k → r ≡ refusalOf 8 p 0 k → OppositeAsked look q s reach e n (AxisRefused r)
   unfolding opposite
@@ -51,8 +51,8 @@ module _ {look : Vector → Look} {q s : Vector} {reach : ℕ} {e : Vector} {n :
 pub ruleset opposing = (opposite-fell, opposite-kept, opposite-stopped)
 
 -- ---- one axis, from what the question of minus its unit vector gave
-pub minus-asked : {look : Vector → Look} {q s : Vector} {reach : ℕ} {e : Vector} {n : ℕ} {f : Falls} {u w : Vector} → w ≡ minus e → u ≡ lay s w → Fallen look q u reach n f → MinusAsked look q s reach e n f
-minus-asked b a h = record { gives = rw (← b, ← a) (h .gives); few = h .few }
+pub minus-asked : {look : Vector → Look} {q s : Vector} {reach : ℕ} {e : Vector} {n : ℕ} {f : Falls} {u : Vector} → u ≡ lay s (minus e) → Fallen look q u reach n f → MinusAsked look q s reach e n f
+minus-asked a h = record { gives = rw a at (h .gives); few = h .few }
 
 module _ {look : Vector → Look} {q s : Vector} {reach : ℕ} {e : Vector} {f : Falls} where
   pub axis-fell : {k : ℕ} → f ≡ Fell k → AxisJudged look q s reach e f (IsAsked false k)
@@ -70,8 +70,8 @@ module _ {look : Vector → Look} {q s : Vector} {reach : ℕ} {e : Vector} {f :
 pub ruleset judging-axis = (axis-fell, axis-kept, axis-stopped)
 
 -- ---- refusal 7, from the sum's parts
-pub is-opposed : {q s e w u p : Vector} {n : ℕ} {r : Refused} → w ≡ minus e → u ≡ lay s w → p ≡ q ⊕ u → r ≡ refusalOf 7 p 0 n → Opposed q s e n r
-is-opposed b a i l = record { is = rw (← b, ← a, ← i) l }
+pub is-opposed : {q s e u p : Vector} {n : ℕ} {r : Refused} → u ≡ lay s (minus e) → p ≡ q ⊕ u → r ≡ refusalOf 7 p 0 n → Opposed q s e n r
+is-opposed a i l = record { is = rw (← a, ← i) l }
 
 -- ---- all three level, or not
 not-all : (v : Levels) {b : Bool} → (v .x && (v .y && v .z)) ≡ b → not (allLevel v) ≡ not b
@@ -79,13 +79,13 @@ unfolding allLevel
 not-all v e = ap not e
 
 module _ {q s : Vector} (v : Levels) {n : ℕ} where
-  pub judged-level : {r : Refused} → (v .x && (v .y && v .z)) ≡ true → Opposed q s unit0 n r → Judged q s v n (IsRefused r)
+  pub judged-level : {r : Refused} → (v .x && (v .y && v .z)) ≡ true → Opposed q s unit0 n r → LevelsJudged q s v n (IsRefused r)
   unfolding judging
   judged-level t l = record { gives = rw (l .is) (then-no _ (not-ensured (not-all v t))); few = omega (arith, ap looksIn (l .is)) }
 
-  pub judged-begun : (v .x && (v .y && v .z)) ≡ false → Judged q s v n (Begun v n)
+  pub judged-begun : (v .x && (v .y && v .z)) ≡ false → LevelsJudged q s v n (Begun v n)
   unfolding judging
-  judged-begun t = record { gives = then-yes _ (ensured (opposed q s unit0) (not-all v t)) at-once; few = omega arith }
+  judged-begun t = record { gives = then-yes _ (ensured (axisRefusal q s unit0) (not-all v t)) at-once; few = omega arith }
 
 -- ---- the three axes
 module _ (look : Vector → Look) (q s : Vector) (reach : ℕ) where
@@ -122,7 +122,7 @@ module _ {look : Vector → Look} {q s : Vector} {reach n : ℕ} {f : Falls} {a 
           let z = axis-asked look q s reach hh hc ec in
           record { gives = then-yes _ (x .gives) (then-yes _ (y .gives) (then-no _ (z .gives))); few = omega (arith, x .few, y .few, z .few) }
 
-      pub axes-judged : {z : Bool} {k : ℕ} {r : Start} → c ≡ IsAsked z k → Judged q s (levels x y z) k r → AxesAsked look q s reach n r
+      pub axes-judged : {z : Bool} {k : ℕ} {r : Start} → c ≡ IsAsked z k → LevelsJudged q s (levels x y z) k r → AxesAsked look q s reach n r
       unfolding axes judging
       axes-judged ec o =
           let x = axis-asked look q s reach hf ha ea in
@@ -145,4 +145,7 @@ opposite-unit h b = bounded-is b (bounded-opposite h)
 pub laid-unit : {s e u : Vector} → Signs s → Bounded 1 e → u ≡ lay s e → Bounded 1 u
 laid-unit g h a = bounded-is a (bounded-lay (signs-bounded g) h)
 
-pub ruleset fitting = (signs-bounded, unit-fits, unit-way, opposite-unit, laid-unit)
+pub laid-opposite : {s e u : Vector} → Signs s → Bounded 1 e → u ≡ lay s (minus e) → Bounded 1 u
+laid-opposite g h a = laid-unit g (bounded-opposite h) a
+
+pub ruleset fitting = (signs-bounded, unit-fits, unit-way, opposite-unit, laid-unit, laid-opposite)

@@ -38,8 +38,8 @@ looksOf (Begun v n) = n
 looksOf (IsRefused r) = r .looks
 
 -- refusal 7 for the axis of the unit vector e: q less it, laid in
-abbrev pub opposed : Vector → Vector → Vector → Stop
-opposed q s e = stop 7 (q ⊕ lay s (minus e)) 0
+abbrev pub axisRefusal : Vector → Vector → Vector → Stop
+axisRefusal q s e = stop 7 (q ⊕ lay s (minus e)) 0
 
 pub record Opposed (q s e : Vector) (looks : ℕ) (r : Refused) : Type 0 where
   pub is : r ≡ refusalOf 7 (q ⊕ lay s (minus e)) 0 looks
@@ -47,10 +47,10 @@ pub record Opposed (q s e : Vector) (looks : ℕ) (r : Refused) : Type 0 where
 -- once the axes are asked
 unfoldable pub judging : Vector → Vector → Levels → Asked Stop Levels
 judging q s v = do
-  ensure (not (allLevel v)) (opposed q s unit0)
+  ensure (not (allLevel v)) (axisRefusal q s unit0)
   answered v []
 
-pub record Judged (q s : Vector) (v : Levels) (looks : ℕ) (r : Start) : Type 0 where
+pub record LevelsJudged (q s : Vector) (v : Levels) (looks : ℕ) (r : Start) : Type 0 where
   pub gives : Gives looks (judging q s v) (told r)
   pub few : looksOf r ≤ looks
 
@@ -59,7 +59,7 @@ module _ (look : Vector → Look) (q s : Vector) (reach : ℕ) where
   unfoldable pub opposite : Vector → Asked Stop Bool
   opposite e = do
     g ← asked 0 (falls look q (lay s e) (powers reach))
-    ensure (not g) (opposed q s e)
+    ensure (not g) (axisRefusal q s e)
     answered true []
 
   pub record MinusAsked (e : Vector) (looks : ℕ) (r : Falls) : Type 0 where
@@ -96,8 +96,8 @@ OppositeAskedIn v bytes e looks r = OppositeAsked (look (v .solid) bytes) (v .ap
 abbrev pub AxisJudgedIn : Scene → List ℕ → Vector → Falls → Axis → Type 0
 AxisJudgedIn v bytes e f r = AxisJudged (look (v .solid) bytes) (v .apex) (v .signs) (v .reach) e f r
 
-abbrev pub JudgedIn : Scene → Levels → ℕ → Start → Type 0
-JudgedIn v level looks r = Judged (v .apex) (v .signs) level looks r
+abbrev pub LevelsJudgedIn : Scene → Levels → ℕ → Start → Type 0
+LevelsJudgedIn v level looks r = LevelsJudged (v .apex) (v .signs) level looks r
 
 abbrev pub AxesAskedIn : Scene → List ℕ → ℕ → Start → Type 0
 AxesAskedIn v bytes looks r = AxesAsked (look (v .solid) bytes) (v .apex) (v .signs) (v .reach) looks r

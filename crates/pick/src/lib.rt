@@ -1,6 +1,7 @@
 // The pick: what is refused, in order, and the walk.
 ghost use mathlib.Core.Path.{_≡_};
 ghost use Prim.Native.Nat.{_≤_};
+ghost use Rattle.rules.specs.Vectors.{minus, lay};
 ghost use Rattle.rules.specs.Walk.{sign, signs, unlessLevel, levelled, normal};
 ghost use Rattle.rules.specs.Pick.{WedgePromise, StackPromise};
 ghost use Rattle.laws.specs.Ranges.{Bounded};
@@ -9,7 +10,7 @@ ghost use Rattle.laws.specs.Frames.{Signs};
 ghost use Rattle.falls.specs.Scene.{Ready};
 ghost use Rattle.falls.specs.Falls.{looksOf};
 ghost use Rattle.round.specs.Round.{Sound};
-ghost use Rattle.pick.specs.Start.{OpposedIn, MinusAskedIn, OppositeAskedIn, AxisJudgedIn, JudgedIn, AxesAskedIn, StartedIn};
+ghost use Rattle.pick.specs.Start.{OpposedIn, MinusAskedIn, OppositeAskedIn, AxisJudgedIn, LevelsJudgedIn, AxesAskedIn, StartedIn};
 ghost use Rattle.pick.specs.Pick.{layTriangle, EndedIn, RoundedIn, BegunIn, Placed, Picked};
 use falls::Falls;
 use falls::Scene;
@@ -56,6 +57,14 @@ fn signs_of(frame: u32) -> Vector
 
 // ---- the start
 
+// Minus the unit vector e, laid in.
+fn lay_minus(s: Vector, e: Vector) -> Vector
+    requires { ⌜ Signs s × Bounded 1 e ⌝ }
+    ensures { λ r. ⌜ r ≡ lay s (minus e) ⌝ }
+{
+    space::lay(s, space::negate(e))
+}
+
 // Refusal 7: q less an axis's unit vector, laid in.
 fn refuse_axis(scene: Scene, e: Vector, looks: u32) -> Refused
     requires { ⌜ Bounded 1000000000 (scene .apex) × Signs (scene .signs) × Bounded 1 e ⌝ }
@@ -63,9 +72,8 @@ fn refuse_axis(scene: Scene, e: Vector, looks: u32) -> Refused
 {
     let q = scene.apex;
     let s = scene.signs;
-    let down = space::negate(e);
-    let u = space::lay(s, down);
-    walk::refusal(7, space::add(q, u), 0, looks)
+    let place = space::add(q, lay_minus(s, e));
+    walk::refusal(7, place, 0, looks)
 }
 
 // Whether minus the unit vector e falls.
@@ -74,8 +82,7 @@ fn ask_minus(scene: Scene, bytes: &[u8], e: Vector, looks: u32) -> Falls
     ensures { λ r. ⌜ MinusAskedIn scene (now (bytes .entry)) e looks r ⌝ }
 {
     let s = scene.signs;
-    let down = space::negate(e);
-    let u = space::lay(s, down);
+    let u = lay_minus(s, e);
     falls::ask_falls(scene, bytes, u, looks)
 }
 
@@ -112,7 +119,7 @@ fn judge_axis(scene: Scene, bytes: &[u8], e: Vector, asked: Falls) -> Axis
 // Refusal 7, with the place as for axis 0, if all three are level.
 fn judge_levels(scene: Scene, level: Levels, looks: u32) -> Start
     requires { ⌜ Bounded 1000000000 (scene .apex) × Signs (scene .signs) ⌝ }
-    ensures { λ r. ⌜ JudgedIn scene level looks r ⌝ }
+    ensures { λ r. ⌜ LevelsJudgedIn scene level looks r ⌝ }
 {
     if level.x & (level.y & level.z) {
         let seven = refuse_axis(scene, Vector { x: 1, y: 0, z: 0 }, looks);

@@ -89,7 +89,7 @@ module _ (look : Vector → Look) (q s : Vector) (reach : ℕ) (m : Triangle) wh
   rest ps (yes c n) = tally n (weighing ps c)
   rest ps (no p n) = no p n
 
-  -- with the pair x asked, after k and n looks, the rest gives what it gave from before
+  -- with the pair x asked, when k was the best and n looks were made, the rest gives what it gave from before
   pub record WayAsked (x : Pair) (k : Best) (n : ℕ) (r : Round) : Type 0 where
     pub is : (ps : List Pair) → rest ps (told r) ≡ rest (x ∷ ps) (yes (k .choice) n)
     pub weighed : Weighed m r

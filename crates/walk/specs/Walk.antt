@@ -31,17 +31,17 @@ abbrev pub SoundEnd : Walked → Type 0
 SoundEnd (Ended m n k) = Sound m
 SoundEnd (IsRefused r) = Unit {0}
 
--- the reach less the number of remaining axes
+-- the steps allowed: the reach less the number of remaining axes, none if that is below zero
 abbrev pub allowed : ℕ → Levels → ℕ
 allowed reach level = reach - length (remaining level)
 
 module _ (look : Vector → Look) (q s : Vector) (reach : ℕ) (level : Levels) where
   -- the walk of the pairs that take part
-  abbrev pub walking : ℕ → ℕ → Triangle → Asked Stop (Triangle × ℕ)
-  walking left steps m = walk look q s (powers reach) (taking level pairs) left steps m
+  abbrev pub walkFrom : ℕ → ℕ → Triangle → Asked Stop (Triangle × ℕ)
+  walkFrom left steps m = walk look q s (powers reach) (taking level pairs) left steps m
 
   pub record Walks (looks : ℕ) (r : Walked) : Type 0 where
-    pub gives : Gives looks (walking (allowed reach level) 0 units) (told r)
+    pub gives : Gives looks (walkFrom (allowed reach level) 0 units) (told r)
     pub sound : SoundEnd r
 
   -- before a round, after n looks: the walk from here gives what the whole walk gives
@@ -50,7 +50,7 @@ module _ (look : Vector → Look) (q s : Vector) (reach : ℕ) (level : Levels) 
     pub low : steps ≤ allowed reach level
     pub high : reach ≤ 256
     pub few : n ≤ 4000 + 3072 * steps
-    pub rest : {r : Tally Stop (Triangle × ℕ)} → Gives n (walking (allowed reach level - steps) steps m) r → Gives looks (walking (allowed reach level) 0 units) r
+    pub rest : {r : Tally Stop (Triangle × ℕ)} → Gives n (walkFrom (allowed reach level - steps) steps m) r → Gives looks (walkFrom (allowed reach level) 0 units) r
 
 -- in a scene, with the bytes lent
 abbrev pub WalksIn : Scene → List ℕ → Levels → ℕ → Walked → Type 0

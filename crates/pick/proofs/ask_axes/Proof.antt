@@ -1,5 +1,4 @@
 -- `pick::ask_axes` meets its contract: axis by axis, each with the rest that its answer leaves.
-use Prim.Native.Nat.{_≤_}
 use native.Mathlib.Omega.{arith}
 use borrow.Author.Needs.{needs}
 use Rattle.falls.proofs.Scenes.{apex-fits}
