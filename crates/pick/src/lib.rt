@@ -280,7 +280,7 @@ fn begin(scene: Scene, bytes: &[u8], p: Vector) -> Pick
 
 // p is judged before q is formed.
 fn place(solid: Solid, bytes: &[u8], p: Vector, frame: u32, reach: u32) -> Pick
-    requires { ⌜ Permitted solid (now bytes) × (1 ≤ reach) × (reach ≤ 256) ⌝ }
+    requires { ⌜ Permitted solid (now bytes) × (reach ≤ 256) ⌝ }
     ensures { λ r. ⌜ Placed solid (now (bytes .entry)) p frame reach r ⌝ }
 {
     if solid::is_inside(solid, p) {

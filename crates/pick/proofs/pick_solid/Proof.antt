@@ -12,7 +12,7 @@ place-requires : tie.Need-place-requires
 place-requires c κs =
     let d = c .before .before .before .before in
     let reach = range _ _ _ (sym (d .before .is-between .ensures) ∙ d .if1 .taken) in
-    (record { is = sym (c .before .is-permitted .ensures) ∙ c .if3 .taken }, omega (arith, reach .at-least), omega (arith, reach .at-most))
+    (record { is = sym (c .before .is-permitted .ensures) ∙ c .if3 .taken }, omega (arith, reach .at-most))
 
 returns-4 : tie.Need-returns-4
 returns-4 c =
