@@ -28,9 +28,9 @@ use Rattle.rules.specs.Pick.{isInside, pick, answer, pickOf}
 use Rattle.falls.specs.Tally.{Tally, yes, no, tally, Gives}
 use Rattle.falls.proofs.Tallies.{then-yes, then-no, ensured, not-ensured, at-once}
 use Rattle.pick.specs.Pick.{told, layTriangle, ending, beginning, placing, Ended, Rounded, Begun, Placed, Picked}
-use Rattle.pick.specs.Start.{Started}
-use Rattle.pick.specs.declared.Start.{Start}
-use Rattle.pick.specs.declared.Start.the-variants.{Begun as StartBegun, Refused as StartRefused}
+use Rattle.start.specs.Start.{Started}
+use Rattle.start.specs.declared.Start.{Start}
+use Rattle.start.specs.declared.Start.the-variants.{Begun as StartBegun, Refused as StartRefused}
 use Rattle.round.specs.Round.{taking}
 use Rattle.walk.specs.Walk.{refusalOf, allowed, Walks}
 use Rattle.walk.specs.declared.Walked.{Walked}

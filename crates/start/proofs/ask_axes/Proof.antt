@@ -1,10 +1,10 @@
--- `pick::ask_axes` meets its contract: axis by axis, each with the rest that its answer leaves.
+-- `start::ask_axes` meets its contract: axis by axis, each with the rest that its answer leaves.
 use native.Mathlib.Omega.{arith}
 use borrow.Author.Needs.{needs}
 use Rattle.falls.proofs.Scenes.{apex-fits}
-use Rattle.pick.proofs.Axes.{axis-few, in-turn}
-use Rattle.pick.proofs.ask_axes.Statement.{statement}
-use Rattle.pick.proofs.ask_axes.Tie as tie
+use Rattle.start.proofs.Axes.{axis-few, in-turn}
+use Rattle.start.proofs.ask_axes.Statement.{statement}
+use Rattle.start.proofs.ask_axes.Tie as tie
 
 ask-minus-requires-2 : tie.Need-ask-minus-requires-2
 ask-minus-requires-2 c κs =

@@ -1,8 +1,8 @@
--- `pick::ask_minus` meets its contract: minus the unit vector, laid in, is what `ask_falls` asks.
+-- `start::ask_minus` meets its contract: minus the unit vector, laid in, is what `ask_falls` asks.
 use native.Mathlib.Omega.{arith}
-use Rattle.pick.proofs.Axes.{fitting, minus-asked}
-use Rattle.pick.proofs.ask_minus.Statement.{statement}
-use Rattle.pick.proofs.ask_minus.Tie as tie
+use Rattle.start.proofs.Axes.{fitting, minus-asked}
+use Rattle.start.proofs.ask_minus.Statement.{statement}
+use Rattle.start.proofs.ask_minus.Tie as tie
 
 ask-falls-requires : tie.Need-ask-falls-requires
 ask-falls-requires c κs =

@@ -1,10 +1,10 @@
--- `pick::ask_opposite` meets its contract: by what `ask_falls` promises of the unit vector.
+-- `start::ask_opposite` meets its contract: by what `ask_falls` promises of the unit vector.
 use native.Mathlib.Omega.{arith}
 use borrow.Author.Needs.{needs}
 use Rattle.falls.proofs.Scenes.{apex-fits}
-use Rattle.pick.proofs.Axes.{fitting, opposing}
-use Rattle.pick.proofs.ask_opposite.Statement.{statement}
-use Rattle.pick.proofs.ask_opposite.Tie as tie
+use Rattle.start.proofs.Axes.{fitting, opposing}
+use Rattle.start.proofs.ask_opposite.Statement.{statement}
+use Rattle.start.proofs.ask_opposite.Tie as tie
 
 lay-requires : tie.Need-lay-requires
 lay-requires c κs = let s = c .before .before in let g = s .pre .0 .signed in search fitting

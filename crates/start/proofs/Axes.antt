@@ -21,11 +21,11 @@ use Rattle.falls.specs.Falls.{Fallen, told as toldFalls, looksOf as looksOfFall
 use Rattle.falls.proofs.Scenes.{signs-bounded}
 use Rattle.walk.specs.Walk.{refusalOf}
 use Rattle.falls.proofs.Tallies.{then-yes, then-no, asked-yes, asked-no, ensured, not-ensured, at-once}
-use Rattle.pick.specs.Start.{axisRefusal, judging, opposite, Opposed, LevelsJudged, MinusAsked, OppositeAsked, AxisJudged, AxesAsked, toldAxis, looksOfAxis}
-use Rattle.pick.specs.declared.Axis.{Axis}
-use Rattle.pick.specs.declared.Axis.the-variants.{Asked as IsAsked, Refused as AxisRefused}
-use Rattle.pick.specs.declared.Start.{Start}
-use Rattle.pick.specs.declared.Start.the-variants.{Begun, Refused as IsRefused}
+use Rattle.start.specs.Start.{axisRefusal, judging, opposite, Opposed, LevelsJudged, MinusAsked, OppositeAsked, AxisJudged, AxesAsked, toldAxis, looksOfAxis}
+use Rattle.start.specs.declared.Axis.{Axis}
+use Rattle.start.specs.declared.Axis.the-variants.{Asked as IsAsked, Refused as AxisRefused}
+use Rattle.start.specs.declared.Start.{Start}
+use Rattle.start.specs.declared.Start.the-variants.{Begun, Refused as IsRefused}
 
 abbrev looksIn : Refused → ℕ
 looksIn r = r .looks

@@ -14,9 +14,9 @@ use Rattle.falls.specs.Tally.{Tally, no, Gives}
 use Rattle.falls.proofs.Tallies.{then-yes, then-no, asked-yes, asked-no, ensured, not-ensured}
 use Rattle.falls.proofs.Powers.{filled-there, empty-there, outside-there}
 use Rattle.walk.specs.Walk.{refusalOf}
-use Rattle.pick.specs.Start.{AxesAsked, Started}
-use Rattle.pick.specs.declared.Start.{Start}
-use Rattle.pick.specs.declared.Start.the-variants.{Refused as IsRefused}
+use Rattle.start.specs.Start.{AxesAsked, Started}
+use Rattle.start.specs.declared.Start.{Start}
+use Rattle.start.specs.declared.Start.the-variants.{Refused as IsRefused}
 
 module _ (look : Vector → Look) (s p q : Vector) (reach : ℕ) where
   start-outside : look p ≡ Outside → Gives 0 (start look s p q reach) (no (stop 8 p 0) 0)

@@ -1,11 +1,11 @@
--- `pick::judge_axis` meets its contract: by what the question of minus the unit vector gave, and what `ask_opposite` promises.
+-- `start::judge_axis` meets its contract: by what the question of minus the unit vector gave, and what `ask_opposite` promises.
 use mathlib.Core.Path.{ap}
 use native.Mathlib.Omega.{arith}
 use borrow.Author.Needs.{needs}
 use Rattle.falls.specs.Falls.{looksOf}
-use Rattle.pick.proofs.Axes.{judging-axis}
-use Rattle.pick.proofs.judge_axis.Statement.{statement}
-use Rattle.pick.proofs.judge_axis.Tie as tie
+use Rattle.start.proofs.Axes.{judging-axis}
+use Rattle.start.proofs.judge_axis.Statement.{statement}
+use Rattle.start.proofs.judge_axis.Tie as tie
 
 ask-opposite-requires : tie.Need-ask-opposite-requires
 ask-opposite-requires c κs =

@@ -1,8 +1,8 @@
--- `pick::judge_levels` meets its contract: by whether all three are level.
+-- `start::judge_levels` meets its contract: by whether all three are level.
 use borrow.Author.Needs.{needs}
-use Rattle.pick.proofs.Axes.{judged-level, judged-begun}
-use Rattle.pick.proofs.judge_levels.Statement.{statement}
-use Rattle.pick.proofs.judge_levels.Tie as tie
+use Rattle.start.proofs.Axes.{judged-level, judged-begun}
+use Rattle.start.proofs.judge_levels.Statement.{statement}
+use Rattle.start.proofs.judge_levels.Tie as tie
 
 pub judge-levels-spec : {M : Type 1} → statement M
 judge-levels-spec =

@@ -16,10 +16,10 @@ use Rattle.falls.specs.declared.Falls.{Falls}
 use Rattle.falls.specs.Tally.{Tally, yes, Gives}
 use Rattle.falls.specs.Falls.{told as toldFalls, looksOf as looksOfFalls}
 use Rattle.walk.specs.Walk.{refusalOf, toldRefusal}
-use Rattle.pick.specs.declared.Axis.{Axis}
-use Rattle.pick.specs.declared.Axis.the-variants.{Asked as IsAsked, Refused as AxisRefused}
-use Rattle.pick.specs.declared.Start.{Start}
-use Rattle.pick.specs.declared.Start.the-variants.{Begun, Refused as IsRefused}
+use Rattle.start.specs.declared.Axis.{Axis}
+use Rattle.start.specs.declared.Axis.the-variants.{Asked as IsAsked, Refused as AxisRefused}
+use Rattle.start.specs.declared.Start.{Start}
+use Rattle.start.specs.declared.Start.the-variants.{Begun, Refused as IsRefused}
 
 abbrev pub toldAxis : Axis → Tally Stop Bool
 toldAxis (IsAsked b n) = yes b n

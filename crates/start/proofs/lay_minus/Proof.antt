@@ -1,10 +1,10 @@
--- `pick::lay_minus` meets its contract: the opposite, laid in.
+-- `start::lay_minus` meets its contract: the opposite, laid in.
 use mathlib.Core.Path.{ap, _∙_}
 use borrow.Author.Needs.{needs}
 use Rattle.rules.specs.Vectors.{lay}
-use Rattle.pick.proofs.Axes.{fitting}
-use Rattle.pick.proofs.lay_minus.Statement.{statement}
-use Rattle.pick.proofs.lay_minus.Tie as tie
+use Rattle.start.proofs.Axes.{fitting}
+use Rattle.start.proofs.lay_minus.Statement.{statement}
+use Rattle.start.proofs.lay_minus.Tie as tie
 
 pub lay-minus-spec : {M : Type 1} → statement M
 lay-minus-spec =
