@@ -22,7 +22,7 @@ use Rattle.rules.specs.declared.Pick.the-variants.{Accepted, Refused}
 use Rattle.rules.specs.Vectors.{_⊕_, scale, dot, lay}
 use Rattle.rules.specs.Asked.{Asked, answered, refused}
 use Rattle.rules.specs.Solids.{permitted, look}
-use Rattle.rules.specs.Walk.{Stop, stop, powers, Axis, axis0, axis1, axis2, unit, triangle, vectorOf, level, remaining, unlessLevel, levelled, normal, isLevel, Found, found}
+use Rattle.rules.specs.Walk.{Stop, stop, powers, Axis, axis0, axis1, axis2, unit, triangle, vectorOf, level, remaining, unlessLevel, levelled, normal, Found, found}
 use Rattle.rules.specs.Pick.{pick, answer, pickOf}
 use Rattle.laws.specs.Parts.{NonNegative, part, part-of, parts-by, scale-one}
 use Rattle.laws.specs.Triples.{detOf, crosses, combined, expand}
@@ -32,6 +32,8 @@ use Rattle.laws.specs.Generators.{Combines, generators, Products, face-g
 use Rattle.laws.specs.Tame.{tame-normal}
 use Rattle.laws.specs.Says.{Says, Few}
 use Rattle.laws.specs.Frames.{Signs, lay-lay, lay-dot, lay-scale, lay-sum, lay-part-zero}
+use Rattle.laws.specs.Next.{AxesAsked}
+use Rattle.laws.specs.Axes.{axes-asked}
 use Rattle.laws.specs.Picks.{Accepting, Picked, ToldOf, pick-says}
 
 -- a triangle laid into the box, or back out of it
@@ -139,8 +141,8 @@ module _ {look : Vector → Look} {q s : Vector} {R : ℕ} {f : Found} (h : Acce
   unfolding found
   accepting-steps g = rw (← accepting-levels g, ap (λ (f : Found). f .steps) (h .is)) (h .end .fewSteps .0)
 
-  pub accepting-axes : Signs s → (k : Axis) → (voxels : List Vector) × (isLevel look q s (powers R) (unit k) ≡ answered (level (levelsOf (f .normal)) k) voxels)
-  accepting-axes g k = let a = h .asked .axis k in (a .voxels, a .is ∙ ap (λ (v : Levels). answered (level v k) (a .voxels)) (accepting-levels g))
+  pub accepting-axes : Signs s → AxesAsked look q s (powers R) (levelsOf (f .normal))
+  accepting-axes g = subst (AxesAsked look q s (powers R)) (accepting-levels g) (axes-asked look q s (powers R) (h .asked))
 
   -- a level axis's vector stays the unit vector
   pub accepting-stays : Signs s → (k : Axis) → T (level (levelsOf (f .normal)) k) → vectorOf (f .triangle) k ≡ lay s (unit k)

@@ -15,8 +15,8 @@ use Rattle.rules.specs.Asked.{Asked, answered, refused, _>>=_, _>>_}
 use Rattle.rules.specs.Walk.{Stop, stop, ensure, asked, falls, Axis, axis0, axis1, axis2, unit, levels, level, allLevel, remaining, isLevel, axes}
 use Rattle.laws.specs.Levels.{remains, remaining-count}
 use Rattle.laws.specs.Says.{Says, Few, fewer, says-answer, says-bind, says-asked, says-ensure}
-use Rattle.laws.specs.Looks.{Fell, Beyond, falls-says}
-use Rattle.laws.specs.Next.{downward, opposite, NextLook, next-look}
+use Rattle.laws.specs.Looks.{Fell, Stopped, falls-says}
+use Rattle.laws.specs.Next.{AxesAsked, downward, opposite, NextLook, next-look}
 
 -- ---- how many looks an axis takes, and all three
 abbrev asks : ℕ → Bool → ℕ
@@ -55,6 +55,9 @@ module _ (look : Vector → Look) (q s : Vector) (ls : List ℕ) where
     pub axis : (k : Axis) → AxisOf (unit k) (level v k)
     pub some : T (not (allLevel v))
 
+  pub axes-asked : {v : Levels} → AxesOf v → AxesAsked look q s ls v
+  axes-asked h k = (h .axis k .voxels, h .axis k .is)
+
   -- F of each refusal
   pub record AxisRule (F : Stop → Type 0) (k : Axis) : Type 0 where
     pub eight : (p : Vector) → NextLook look q s ls (stop 8 p 0) → F (stop 8 p 0)
@@ -65,11 +68,11 @@ module _ (look : Vector → Look) (q s : Vector) (ls : List ℕ) where
       abbrev e : Vector
       e = unit k
 
-      below : (p : Vector) (n : ℕ) → Few K (Beyond look q (lay s (minus e)) ls) p n → Few (K + K) F (stop 8 p 0) n
-      below p n h = record { holds = rule .eight p (next-look (minus e) (downward k refl refl) (h .holds)); few = omega (arith, h .few) }
+      below : (p : Vector) (n : ℕ) → Few K (Stopped look q (lay s (minus e)) ls) p n → Few (K + K) F (stop 8 p 0) n
+      below p n h = record { holds = rule .eight p (next-look look q s ls (minus e) (downward k refl refl) (h .holds)); few = omega (arith, h .few) }
 
-      above : (p : Vector) (n : ℕ) → Few K (Beyond look q (lay s e) ls) p n → Few K F (stop 8 p 0) n
-      above p n h = record { holds = rule .eight p (next-look e (opposite k refl refl) (h .holds)); few = h .few }
+      above : Fell look q (lay s (minus e)) ls false → (p : Vector) (n : ℕ) → Few K (Stopped look q (lay s e) ls) p n → Few K F (stop 8 p 0) n
+      above f p n h = record { holds = rule .eight p (next-look look q s ls e (opposite k refl refl f) (h .holds)); few = h .few }
 
       fell-says : Says (λ b. Few (asks K b) (FellAlong e) b) (Few (K + K) F) (isLevel look q s ls e)
       unfolding isLevel
@@ -84,7 +87,7 @@ module _ (look : Vector → Look) (q s : Vector) (ls : List ℕ) where
               → Says {E = Stop} {A = Bool} (λ b n. Few (asks K b) (FellAlong e) b (m + n)) (λ r n. Few (K + K) F r (m + n)) (elim b [ true ↦ answered false [] | false ↦ asked 0 (falls look q (lay s e) ls) >>= λ g. ensure (not g) (stop 7 (q ⊕ lay s (minus e)) 0) >> answered true [] ])
           go true m f l = says-answer (record { holds = f; few = omega (arith, l) })
           go false m f l =
-              says-bind {P = Few K (Fell look q (lay s e) ls)} {G = Few K F} _ _ (says-asked 0 _ above (falls-says look q (lay s e) ls)) (λ r n h. fewer (λ k. omega (arith, k, l)) h) (upward m f l)
+              says-bind {P = Few K (Fell look q (lay s e) ls)} {G = Few K F} _ _ (says-asked 0 _ (above f) (falls-says look q (lay s e) ls)) (λ r n h. fewer (λ k. omega (arith, k, l)) h) (upward m f l)
 
       also : (x : Asked Stop Bool) → isLevel look q s ls e ≡ x → Says (λ b. Few (asks K b) (FellAlong e) b) (Few (K + K) F) x → Says (λ b. Few (asks K b) (AxisOf e) b) (Few (K + K) F) x
       also (answered b t) is h = record { of = record { holds = record { fell = h .of .holds; voxels = t; is = is }; few = h .of .few } }

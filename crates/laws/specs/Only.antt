@@ -1,5 +1,6 @@
 -- Lists: what holds of each member, and of those that a test lets through.
 use mathlib.Core.Path.{_≡_, refl, subst}
+use mathlib.Core.Logic.{inl, inr}
 use mathlib.Core.Bool.{Bool, true, false}
 use mathlib.Core.List.{List, [], _∷_, _++_, map}
 use Prim.Native.Nat.{ℕ}
@@ -9,7 +10,7 @@ use Rattle.rules.specs.declared.Levels.{Levels}
 use Rattle.rules.specs.declared.Pair.{Pair}
 use Rattle.rules.specs.declared.Pair.the-variants.{P01, P02, P10, P12, P20, P21}
 use Rattle.rules.specs.Walk.{pairs, keep, only, takesPart}
-use Rattle.laws.specs.Tests.{Each}
+use Rattle.laws.specs.Tests.{Each, In}
 
 module _ {A : Type 0} where
   pub each-all : (P : A → Type 0) (xs : List A) → ((x : A) → P x) → Each P xs
@@ -51,6 +52,17 @@ module _ {A : Type 0} where
         go : (b : Bool) → test x ≡ b → Each P (keep b x (only test xs)) → (Each P (only test xs) → Each (λ x. T (test x) → P x) xs) → (T (test x) → P x) × Each (λ x. T (test x) → P x) xs
         go true e h r = (λ _. h .0, r (h .1))
         go false e h r = (λ t. absurd (subst T e t), r h)
+
+    -- a member of those that are let through
+    pub only-in : (x : A) (xs : List A) → In x (only test xs) → T (test x)
+    unfolding only keep
+    only-in x [] h = absurd h
+    only-in x (y ∷ ys) h = go (test y) refl h (only-in x ys)
+      where
+        go : (b : Bool) → test y ≡ b → In x (keep b y (only test ys)) → (In x (only test ys) → T (test x)) → T (test x)
+        go true e (inl p) r = rw (p, e) tt
+        go true e (inr i) r = r i
+        go false e i r = r i
 
     -- what holds of each holds of each that is let through
     pub only-each : (P : A → Type 0) (xs : List A) → Each P xs → Each P (only test xs)

@@ -20,15 +20,16 @@ use Rattle.rules.specs.Solids.{between}
 use Rattle.rules.specs.Walk.{Stop, stop, signs, powers, Axis, units, way, pairs, normal, keep, only, remaining, takesPart, levelled, Found, found, start, rounds}
 use Rattle.rules.specs.Pick.{isInside, pick}
 use Rattle.laws.specs.Tests.{Each}
+use Rattle.laws.specs.Only.{only-in}
 use Rattle.laws.specs.Tame.{Tame, units-tame, step-tame}
 use Rattle.laws.specs.Levels.{at-most-3, pairs-taking, some-remain, two-remain}
 use Rattle.laws.specs.Flat.{Flat, units-flat, step-flat}
 use Rattle.laws.specs.Choosing.{choice-exists}
 use Rattle.laws.specs.Says.{Says, Few, fewer, says-answer, says-weaker, says-bind, few-bind, few-fewer, says-asked, says-ensure}
-use Rattle.laws.specs.Looks.{IsOutside, Fell, FellOf, look-says}
+use Rattle.laws.specs.Looks.{IsOutside, Fell, FellOf, StoppedOf, look-says}
 use Rattle.laws.specs.Chosen.{chosen-only}
 use Rattle.laws.specs.Next.{Reached, sideways, NextLook, next-look}
-use Rattle.laws.specs.Axes.{AxesOf, AxisRule, axes-says}
+use Rattle.laws.specs.Axes.{AxesOf, axes-asked, AxisRule, axes-says}
 use Rattle.laws.specs.Powers.{looks-add-up, three-most}
 use Rattle.laws.specs.Walks.{WalkRule, walk-says}
 use Rattle.laws.specs.Boxes.{between-yes}
@@ -75,25 +76,30 @@ module _ (look : Vector → Look) (q s : Vector) (ls : List ℕ) where
       go false f e r = (f, r e)
 
 -- what every round keeps; a step needs two remaining axes
-record Kept (v : Levels) (R left r n : ℕ) (m : Triangle) : Type 0 where
+record Kept (look : Vector → Look) (q s : Vector) (v : Levels) (R left r n : ℕ) (m : Triangle) : Type 0 where
   pub isLeft : r ≡ left
   pub fewSteps : n + left ≤ R - length (remaining v)
   pub two : 1 ≤ n → 2 ≤ length (remaining v)
   pub tame : Tame m
   pub flat : Flat v m
-  pub reached : Reached n m
+  pub reached : Reached look q s (powers R) (only (takesPart v) pairs) n m
 
 module _ (look : Vector → Look) (q s : Vector) (R : ℕ) (v : Levels) (asked : AxesOf look q s (powers R) v) where
-  few-steps : (left r n : ℕ) (m : Triangle) → Kept v R left r n m → FewSteps look q s R n
+  few-steps : (left r n : ℕ) (m : Triangle) → Kept look q s v R left r n m → FewSteps look q s R n
   few-steps left r n m h = record { most = most n (h .fewSteps) (h .two); asked = λ _. (v, asked, omega (arith, h .fewSteps)) }
     where
       most : (n : ℕ) → n + left ≤ R - length (remaining v) → (1 ≤ n → 2 ≤ length (remaining v)) → n ≤ R - 2
       most zero h k = omega arith
       most (suc n) h k = omega (arith, h, k (omega arith))
 
-  every-walk : WalkRule look q s (powers R) (only (takesPart v) pairs) (Kept v R) (End look q s v R) (Told look q s R)
+  sideways-look : (m : Triangle) (n : ℕ) → Reached look q s (powers R) (only (takesPart v) pairs) n m → {p : Vector} → StoppedOf look q s (powers R) m (only (takesPart v) pairs) p → NextLook look q s (powers R) (stop 8 p n)
+  sideways-look m n h o =
+      let x = o .pair in
+      next-look look q s (powers R) (way m x) (sideways v (axes-asked look q s (powers R) asked) m h x (only-in (takesPart v) x pairs (o .isPair)) refl) (o .stopped)
+
+  every-walk : WalkRule look q s (powers R) (only (takesPart v) pairs) (Kept look q s v R) (End look q s v R) (Told look q s R)
   every-walk = record {
-    outside = λ left r n m p h o. eight look q s R p n (few-steps left r n m h) (next-look (way m (o .pair)) (sideways m (o .pair) (h .reached) refl) (o .beyond));
+    outside = λ left r n m p h o. eight look q s R p n (few-steps left r n m h) (sideways-look m n (h .reached) o);
     ends = λ left r n m h w. record {
       tame = h .tame;
       flat = h .flat;
@@ -110,7 +116,7 @@ module _ (look : Vector → Look) (q s : Vector) (R : ℕ) (v : Levels) (asked :
         two = λ _. two-remain v x t;
         tame = step-tame m x (h .tame);
         flat = step-flat v m x t (h .flat);
-        reached = (m, x, h .reached, refl);
+        reached = (m, x, h .reached, w, refl);
       },
     );
   }
@@ -158,7 +164,7 @@ module _ (look : Vector → Look) (p q s : Vector) (R : ℕ) (inside : T (isInsi
       says-ensure _ _ _ (λ _. record { holds = other-than-8 look q s R 10 q (e .1) (omega arith) (h .fewSteps .1); few = omega arith }) (λ t.
       says-answer (record { holds = record { level = v; asked = asked; at = e; is = refl; end = h; fits = leb→le (size (levelled v (normal (e .0)))) R t }; few = omega arith }))))
     where
-      begin : Kept v R (R - length (remaining v)) (R - length (remaining v)) 0 units
+      begin : Kept look q s v R (R - length (remaining v)) (R - length (remaining v)) 0 units
       begin = record { isLeft = refl; fewSteps = omega arith; two = λ h. absurd (omega (arith, h)); tame = units-tame; flat = units-flat v; reached = refl }
 
 -- from 1 to 256

@@ -25,7 +25,7 @@ use Rattle.rules.specs.declared.Pick.the-variants.{Accepted, Refused}
 use Rattle.rules.specs.Vectors.{_⊕_, scale, dot, lay}
 use Rattle.rules.specs.Solids.{box, inBox, permitted, look}
 use Rattle.rules.specs.Asked.{answered}
-use Rattle.rules.specs.Walk.{signs, powers, Axis, axis0, axis1, axis2, unit, units, vectorOf, pairs, second, way, step, levels, level, keep, only, remaining, takesPart, determinant, inside, choice, isLevel, round}
+use Rattle.rules.specs.Walk.{signs, powers, Axis, axis0, axis1, axis2, unit, units, vectorOf, pairs, second, way, step, levels, level, keep, only, remaining, takesPart, determinant, inside, choice, round}
 use Rattle.rules.specs.Pick.{isInside, pickOf}
 use Rattle.laws.specs.Parts.{NonNegative, Positive, part, parts-by}
 use Rattle.laws.specs.Triples.{All, all-by, detOf, step-det}
@@ -43,7 +43,8 @@ use Rattle.laws.specs.Powers.{UpTo, few-looks}
 use Rattle.laws.specs.Ranges.{Bounded}
 use Rattle.laws.specs.Boxes as Boxes
 use Rattle.laws.specs.Boxes.{outside-box}
-use Rattle.laws.specs.Next.{NextLook}
+use Rattle.laws.specs.Next.{AxesAsked, NextLook}
+use Rattle.laws.specs.Axes.{axes-asked}
 use Rattle.laws.specs.Picks.{Accepting}
 use Rattle.laws.specs.Answers.{laid, stepsOf, looksOf, foundOf, stopOf, told-accepted, told-refused, told-steps, told-looks, accepting-determinant, accepting-products, accepting-generated, accepting-signs, accepting-steps, accepting-stays, accepting-axes}
 use Rattle.laws.specs.Stacks as Stacks
@@ -114,9 +115,9 @@ module _ (solid : Solid) (bytes : List ℕ) (p : Vector) (frame reach : ℤ) whe
   pub looks-at-most-13745 : looksOf (pickOf solid bytes p frame reach) ≤ 13745
   looks-at-most-13745 = told-looks solid bytes p frame reach 13745 (λ h. few-looks R (max R 3) h (omega arith))
 
-  -- the axes were asked, and v has those that are level
+  -- each axis was asked, and v has those that are level
   abbrev pub Asked : Levels → Type 0
-  Asked v = (k : Axis) → (voxels : List Vector) × (isLevel (look solid bytes) (p ⊕ signs (natAbs frame)) (signs (natAbs frame)) (powers (natAbs reach)) (unit k) ≡ answered (level v k) voxels)
+  Asked = AxesAsked (look solid bytes) (p ⊕ signs (natAbs frame)) (signs (natAbs frame)) (powers (natAbs reach))
 
   -- ---- an accepted pick
   module _ (a : AcceptedPick) (is : pickOf solid bytes p frame reach ≡ Accepted a) where
@@ -169,7 +170,7 @@ module _ (solid : Solid) (bytes : List ℕ) (p : Vector) (frame reach : ℤ) whe
 
   -- ---- a refused pick that took a step had asked the axes: at most the reach less those that remain
   pub refused-steps : (r : RefusedPick) → pickOf solid bytes p frame reach ≡ Refused r → 1 ≤ r .steps → (v : Levels) × Asked v × (r .steps ≤ natAbs reach - length (remaining v))
-  refused-steps r is h = let a = told-refused solid bytes p frame reach r is .fewSteps .asked h in (a .0, λ k. (a .1 .axis k .voxels, a .1 .axis k .is), a .2)
+  refused-steps r is h = let a = told-refused solid bytes p frame reach r is .fewSteps .asked h in (a .0, axes-asked _ _ _ _ (a .1), a .2)
 
   -- so with no level axis at most R - 3, refused or accepted, as document 01 has it
   pub base-steps-at-most : Asked (levels false false false) → stepsOf (pickOf solid bytes p frame reach) ≤ natAbs reach - 3

@@ -14,12 +14,12 @@ use Rattle.rules.specs.declared.Choice.the-variants.{Nothing, Chosen}
 use Rattle.rules.specs.Asked.{answered, refused}
 use Rattle.rules.specs.Walk.{Stop, stop, step, walk}
 use Rattle.laws.specs.Says.{Says, Few, says-answer, says-refuse, few-bind, few-fewer, says-asked}
-use Rattle.laws.specs.Looks.{BeyondOf, RoundOf, round-says}
+use Rattle.laws.specs.Looks.{StoppedOf, RoundOf, round-says}
 
 module _ (look : Vector → Look) (q s : Vector) (ls : List ℕ) (ps : List Pair) where
   -- Kept holds at each round, Ends of the end, F of a refusal
   pub record WalkRule (Kept : ℕ → ℕ → ℕ → Triangle → Type 0) (Ends : Triangle × ℕ → Type 0) (F : Stop → Type 0) : Type 0 where
-    pub outside : (left r n : ℕ) (m : Triangle) (p : Vector) → Kept left r n m → BeyondOf look q s ls m ps p → F (stop 8 p n)
+    pub outside : (left r n : ℕ) (m : Triangle) (p : Vector) → Kept left r n m → StoppedOf look q s ls m ps p → F (stop 8 p n)
     pub ends : (left r n : ℕ) (m : Triangle) → Kept left r n m → RoundOf look q s ls ps m Nothing → Ends (m, n)
     pub stops : (r n : ℕ) (m : Triangle) (x : Pair) → Kept 0 r n m → RoundOf look q s ls ps m (Chosen x) → F (stop 9 q n)
     pub steps : (left r n : ℕ) (m : Triangle) (x : Pair) → Kept (suc left) r n m → RoundOf look q s ls ps m (Chosen x) → (k : ℕ) × (suc k ≤ r) × Kept left k (suc n) (step m x)
@@ -29,7 +29,7 @@ module _ (look : Vector → Look) (q s : Vector) (ls : List ℕ) (ps : List Pair
   M = length ps * length ls
 
   module _ {Kept : ℕ → ℕ → ℕ → Triangle → Type 0} {Ends : Triangle × ℕ → Type 0} {F : Stop → Type 0} (rule : WalkRule Kept Ends F) where
-    beyond : (left r n : ℕ) (m : Triangle) → Kept left r n m → (p : Vector) (l : ℕ) → Few M (BeyondOf look q s ls m ps) p l → Few M F (stop 8 p n) l
+    beyond : (left r n : ℕ) (m : Triangle) → Kept left r n m → (p : Vector) (l : ℕ) → Few M (StoppedOf look q s ls m ps) p l → Few M F (stop 8 p n) l
     beyond left r n m h p l b = record { holds = rule .outside left r n m p h (b .holds); few = b .few }
 
     pub walk-says : (left r n : ℕ) (m : Triangle) → Kept left r n m → Says (Few (suc r * (length ps * length ls)) Ends) (Few (suc r * (length ps * length ls)) F) (walk look q s ls ps left n m)

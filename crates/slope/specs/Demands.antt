@@ -94,7 +94,7 @@ pub record AcceptedWith (n : Vector) (i : Inputs) (a : AcceptedPick) : Type 0 wh
   pub inPlane : Each (λ g. dot n g ≡ pos 0) (generators (levelsOf n) (a .triangle))
   pub generated : (v : Vector) → dot n v ≡ pos 0 → Combines (generators (levelsOf n) (a .triangle)) v
 
--- refused with 8, at the voxel that was to be looked at next: a power times minus a unit vector, a unit vector or a way, from the apex; it lies outside the box
+-- refused with 8, at the voxel that was to be looked at next: a power times minus a unit vector, a unit vector (an opposite) or a way of the triangle reached, from the apex; it lies outside the box
 pub record RefusedOutside (i : Inputs) (r : RefusedPick) : Type 0 where
   pub isEight : r .number ≡ 8
   pub next : NextLook (look (i .solid) (i .bytes)) (apexOf i) (signsOf i) (powers (natAbs (i .reach))) (stopOf r)

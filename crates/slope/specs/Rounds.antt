@@ -18,11 +18,11 @@ use Rattle.rules.specs.declared.Choice.the-variants.{Nothing, Chosen}
 use Rattle.rules.specs.Vectors.{dot, lay}
 use Rattle.rules.specs.Walk.{Stop, stop, pairs, way, step, keep, only, choice, takesPart}
 use Rattle.laws.specs.Tests.{Each}
-use Rattle.laws.specs.Only.{only-holds}
+use Rattle.laws.specs.Only.{only-holds, only-in}
 use Rattle.laws.specs.Flat.{Flat, Lies, raised, raised-way}
 use Rattle.laws.specs.Frames.{lay-dot}
 use Rattle.laws.specs.Looks.{Fell, FellOf, RoundOf}
-use Rattle.laws.specs.Next.{Reached, sideways, NextLook, next-look}
+use Rattle.laws.specs.Next.{AxesAsked, Reached, sideways, NextLook, next-look}
 use Rattle.laws.specs.Powers.{Reaches}
 use Rattle.laws.specs.Walks.{WalkRule}
 use Rattle.slope.specs.Falls.{Near, fell-is}
@@ -38,7 +38,7 @@ module _ {look : Vector → Look} {n : Vector} {t : ℤ} {q : Vector} {R : ℕ} 
   pub fell-lay : (u : Vector) (b : Bool) → Fell look q (lay s u) ls b → b ≡ ltZ (dot (lay s n) u) (pos 0)
   fell-lay u b f = rw (lay-dot s n u) (fell-is near (lay s u) ls reaches b f)
 
-  module _ (v : Levels) (lies : Lies v (lay s n)) where
+  module _ (v : Levels) (lies : Lies v (lay s n)) (asked : AxesAsked look q s ls v) where
     abbrev N : Vector
     N = raised v (lay s n)
 
@@ -61,14 +61,14 @@ module _ {look : Vector → Look} {n : Vector} {t : ℤ} {q : Vector} {R : ℕ} 
       pub upright : Upright N v m
       pub lower : heights N v m ≤ℤ pos (3 + r)
       pub same : ideal N v r k m ≡ final
-      pub reached : Reached k m
+      pub reached : Reached look q s ls ps k m
 
     falls-down : (m : Triangle) (x : Pair) → Flat v m → RoundOf look q s ls ps m (Chosen x) → Down N v m x
     falls-down m x f w = rw (← round-ideal m (Chosen x) f w) at (round-down N v m)
 
     pub slope-walk : (final : Triangle × ℕ) → WalkRule look q s ls ps (Kept final) (λ e. e ≡ final) (Edge look q s ls)
     slope-walk final = record {
-      outside = λ left r k m p h o. record { isEight = refl; next = next-look (way m (o .pair)) (sideways m (o .pair) (h .reached) refl) (o .beyond) };
+      outside = λ left r k m p h o. record { isEight = refl; next = next-look look q s ls (way m (o .pair)) (sideways v asked m (h .reached) (o .pair) (only-in (takesPart v) (o .pair) pairs (o .isPair)) refl) (o .stopped) };
       ends = λ left r k m h w. sym (ideal-ends N v r k m (round-ideal m Nothing (h .upright .flat) w)) ∙ h .same;
       stops = stops;
       steps = steps;
@@ -88,6 +88,6 @@ module _ {look : Vector → Look} {n : Vector} {t : ℤ} {q : Vector} {R : ℕ} 
             upright = step-upright N v m x (h .upright) (falls-down m x (h .upright .flat) w);
             lower = step-lower N v m x r (h .upright) (h .lower);
             same = sym (ideal-goes-on N v r k m x (round-ideal m (Chosen x) (h .upright .flat) w)) ∙ h .same;
-            reached = (m, x, h .reached, refl);
+            reached = (m, x, h .reached, w, refl);
           },
         )
