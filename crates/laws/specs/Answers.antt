@@ -32,8 +32,8 @@ use Rattle.laws.specs.Generators.{Combines, generators, Products, face-g
 use Rattle.laws.specs.Tame.{tame-normal}
 use Rattle.laws.specs.Says.{Says, Few}
 use Rattle.laws.specs.Frames.{Signs, lay-lay, lay-dot, lay-scale, lay-sum, lay-part-zero}
-use Rattle.laws.specs.Next.{AxesAsked}
-use Rattle.laws.specs.Axes.{axes-asked}
+use Rattle.laws.specs.Next.{LevelsAnswered}
+use Rattle.laws.specs.Axes.{levels-answered}
 use Rattle.laws.specs.Picks.{Accepting, Picked, ToldOf, pick-says}
 
 -- a triangle laid into the box, or back out of it
@@ -141,8 +141,8 @@ module _ {look : Vector → Look} {q s : Vector} {R : ℕ} {f : Found} (h : Acce
   unfolding found
   accepting-steps g = rw (← accepting-levels g, ap (λ (f : Found). f .steps) (h .is)) (h .end .fewSteps .0)
 
-  pub accepting-axes : Signs s → AxesAsked look q s (powers R) (levelsOf (f .normal))
-  accepting-axes g = subst (AxesAsked look q s (powers R)) (accepting-levels g) (axes-asked look q s (powers R) (h .asked))
+  pub accepting-axes : Signs s → LevelsAnswered look q s (powers R) (levelsOf (f .normal))
+  accepting-axes g = subst (LevelsAnswered look q s (powers R)) (accepting-levels g) (levels-answered look q s (powers R) (h .asked))
 
   -- a level axis's vector stays the unit vector
   pub accepting-stays : Signs s → (k : Axis) → T (level (levelsOf (f .normal)) k) → vectorOf (f .triangle) k ≡ lay s (unit k)

@@ -16,7 +16,7 @@ use Rattle.rules.specs.Walk.{Stop, stop, ensure, asked, falls, Axis, axis0, axi
 use Rattle.laws.specs.Levels.{remains, remaining-count}
 use Rattle.laws.specs.Says.{Says, Few, fewer, says-answer, says-bind, says-asked, says-ensure}
 use Rattle.laws.specs.Looks.{Fell, Stopped, falls-says}
-use Rattle.laws.specs.Next.{AxesAsked, downward, opposite, NextLook, next-look}
+use Rattle.laws.specs.Next.{LevelsAnswered, downward, opposite, NextLook, next-look}
 
 -- ---- how many looks an axis takes, and all three
 abbrev asks : ℕ → Bool → ℕ
@@ -55,8 +55,8 @@ module _ (look : Vector → Look) (q s : Vector) (ls : List ℕ) where
     pub axis : (k : Axis) → AxisOf (unit k) (level v k)
     pub some : T (not (allLevel v))
 
-  pub axes-asked : {v : Levels} → AxesOf v → AxesAsked look q s ls v
-  axes-asked h k = (h .axis k .voxels, h .axis k .is)
+  pub levels-answered : {v : Levels} → AxesOf v → LevelsAnswered look q s ls v
+  levels-answered h k = (h .axis k .voxels, h .axis k .is)
 
   -- F of each refusal
   pub record AxisRule (F : Stop → Type 0) (k : Axis) : Type 0 where

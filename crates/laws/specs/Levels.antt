@@ -22,12 +22,12 @@ every : (f : Bool → Bool) → T (f true && f false) → (b : Bool) → T (f b)
 every f h true = first-of (f true) (f false) h
 every f h false = second-of (f true) (f false) h
 
-both : (Bool → Bool) → Bool
-both f = f true && f false
+eachWay : (Bool → Bool) → Bool
+eachWay f = f true && f false
 
-every-levels : (test : Levels → Bool) → T (both (λ a. both (λ b. both (λ c. test (levels a b c))))) → (v : Levels) → T (test v)
-unfolding both
-every-levels test h v = every (λ c. test (levels (v .x) (v .y) c)) (every (λ b. both (λ c. test (levels (v .x) b c))) (every (λ a. both (λ b. both (λ c. test (levels a b c)))) h (v .x)) (v .y)) (v .z)
+every-levels : (test : Levels → Bool) → T (eachWay (λ a. eachWay (λ b. eachWay (λ c. test (levels a b c))))) → (v : Levels) → T (test v)
+unfolding eachWay
+every-levels test h v = every (λ c. test (levels (v .x) (v .y) c)) (every (λ b. eachWay (λ c. test (levels (v .x) b c))) (every (λ a. eachWay (λ b. eachWay (λ c. test (levels a b c)))) h (v .x)) (v .y)) (v .z)
 
 -- 1 of an axis that remains
 abbrev pub remains : Bool → ℕ
@@ -44,16 +44,16 @@ unfolding remaining only
 remaining-count v = omega (arith, keep-length (v .x) axis0 (keep (not (v .y)) axis1 (keep (not (v .z)) axis2 [])), keep-length (v .y) axis1 (keep (not (v .z)) axis2 []), keep-length (v .z) axis2 [])
 
 pub at-most-3 : (v : Levels) → length (remaining v) ≤ 3
-unfolding both remaining only keep
+unfolding eachWay remaining only keep
 at-most-3 v = leb→le _ 3 (every-levels (λ v. leb (length (remaining v)) 3) tt v)
 
 -- with r axes r(r - 1) pairs
 pub pairs-taking : (v : Levels) → length (only (takesPart v) pairs) ≡ length (remaining v) * (length (remaining v) - 1)
-unfolding both remaining takesPart only keep
+unfolding eachWay remaining takesPart only keep
 pairs-taking v = eqb→eq _ _ (every-levels (λ v. eqb (length (only (takesPart v) pairs)) (length (remaining v) * (length (remaining v) - 1))) tt v)
 
 pub some-remain : (v : Levels) → T (not (allLevel v)) → 1 ≤ length (remaining v)
-unfolding both remaining only keep allLevel
+unfolding eachWay remaining only keep allLevel
 some-remain v h = go (allLevel v) h (every-levels (λ v. allLevel v || leb 1 (length (remaining v))) tt v)
   where
     go : (b : Bool) → T (not b) → T (b || leb 1 (length (remaining v))) → 1 ≤ length (remaining v)
@@ -70,11 +70,11 @@ unfolding takesPart
 to-remains v x t = second-of (not (level v (from x))) (not (level v (to x))) t
 
 -- so there are two of them
-two : Pair → Levels → Bool
-two x v = not (takesPart v x) || leb 2 (length (remaining v))
+hasTwo : Pair → Levels → Bool
+hasTwo x v = not (takesPart v x) || leb 2 (length (remaining v))
 
-two-each : (x : Pair) → T (both (λ a. both (λ b. both (λ c. two x (levels a b c)))))
-unfolding both two remaining takesPart only keep
+two-each : (x : Pair) → T (eachWay (λ a. eachWay (λ b. eachWay (λ c. hasTwo x (levels a b c)))))
+unfolding eachWay hasTwo remaining takesPart only keep
 two-each P01 = tt
 two-each P02 = tt
 two-each P10 = tt
@@ -83,8 +83,8 @@ two-each P20 = tt
 two-each P21 = tt
 
 pub two-remain : (v : Levels) (x : Pair) → T (takesPart v x) → 2 ≤ length (remaining v)
-unfolding two
-two-remain v x t = go (takesPart v x) t (every-levels (two x) (two-each x) v)
+unfolding hasTwo
+two-remain v x t = go (takesPart v x) t (every-levels (hasTwo x) (two-each x) v)
   where
     go : (b : Bool) → T b → T (not b || leb 2 (length (remaining v))) → 2 ≤ length (remaining v)
     go true t k = leb→le 2 _ k

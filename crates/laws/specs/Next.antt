@@ -21,8 +21,8 @@ use Rattle.laws.specs.Looks.{Fell, Stopped, RoundOf}
 
 module _ (look : Vector → Look) (q s : Vector) (ls : List ℕ) where
   -- each axis was asked, and v has those that are level
-  abbrev pub AxesAsked : Levels → Type 0
-  AxesAsked v = (k : Axis) → (voxels : List Vector) × (isLevel look q s ls (unit k) ≡ answered (level v k) voxels)
+  abbrev pub LevelsAnswered : Levels → Type 0
+  LevelsAnswered v = (k : Axis) → (voxels : List Vector) × (isLevel look q s ls (unit k) ≡ answered (level v k) voxels)
 
   -- the triangle that the walk of the pairs ps has reached after n steps, each by the pair that a round chose
   abbrev pub Reached : List Pair → ℕ → Triangle → Type 0
@@ -33,7 +33,7 @@ module _ (look : Vector → Look) (q s : Vector) (ls : List ℕ) where
   pub data Question (n : ℕ) (u : Vector) : Type 0 where
     downward : (k : Axis) → n ≡ 0 → u ≡ minus (unit k) → Question n u
     opposite : (k : Axis) → n ≡ 0 → u ≡ unit k → Fell look q (lay s (minus (unit k))) ls false → Question n u
-    sideways : (v : Levels) → AxesAsked v → (m : Triangle) → Reached (only (takesPart v) pairs) n m → (x : Pair) → T (takesPart v x) → u ≡ way m x → Question n u
+    sideways : (v : Levels) → LevelsAnswered v → (m : Triangle) → Reached (only (takesPart v) pairs) n m → (x : Pair) → T (takesPart v x) → u ≡ way m x → Question n u
 
   pub record NextLook (r : Stop) : Type 0 where
     pub vector : Vector

@@ -29,7 +29,7 @@ use Rattle.laws.specs.Says.{Says, Few, fewer, says-answer, says-weaker, 
 use Rattle.laws.specs.Looks.{IsOutside, Fell, FellOf, StoppedOf, look-says}
 use Rattle.laws.specs.Chosen.{chosen-only}
 use Rattle.laws.specs.Next.{Reached, sideways, NextLook, next-look}
-use Rattle.laws.specs.Axes.{AxesOf, axes-asked, AxisRule, axes-says}
+use Rattle.laws.specs.Axes.{AxesOf, levels-answered, AxisRule, axes-says}
 use Rattle.laws.specs.Powers.{looks-add-up, three-most}
 use Rattle.laws.specs.Walks.{WalkRule, walk-says}
 use Rattle.laws.specs.Boxes.{between-yes}
@@ -95,7 +95,7 @@ module _ (look : Vector → Look) (q s : Vector) (R : ℕ) (v : Levels) (asked :
   sideways-look : (m : Triangle) (n : ℕ) → Reached look q s (powers R) (only (takesPart v) pairs) n m → {p : Vector} → StoppedOf look q s (powers R) m (only (takesPart v) pairs) p → NextLook look q s (powers R) (stop 8 p n)
   sideways-look m n h o =
       let x = o .pair in
-      next-look look q s (powers R) (way m x) (sideways v (axes-asked look q s (powers R) asked) m h x (only-in (takesPart v) x pairs (o .isPair)) refl) (o .stopped)
+      next-look look q s (powers R) (way m x) (sideways v (levels-answered look q s (powers R) asked) m h x (only-in (takesPart v) x pairs (o .isPair)) refl) (o .stopped)
 
   every-walk : WalkRule look q s (powers R) (only (takesPart v) pairs) (Kept look q s v R) (End look q s v R) (Told look q s R)
   every-walk = record {

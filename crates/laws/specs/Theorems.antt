@@ -43,8 +43,8 @@ use Rattle.laws.specs.Powers.{UpTo, few-looks}
 use Rattle.laws.specs.Ranges.{Bounded}
 use Rattle.laws.specs.Boxes as Boxes
 use Rattle.laws.specs.Boxes.{outside-box}
-use Rattle.laws.specs.Next.{AxesAsked, NextLook}
-use Rattle.laws.specs.Axes.{axes-asked}
+use Rattle.laws.specs.Next.{LevelsAnswered, NextLook}
+use Rattle.laws.specs.Axes.{levels-answered}
 use Rattle.laws.specs.Picks.{Accepting}
 use Rattle.laws.specs.Answers.{laid, stepsOf, looksOf, foundOf, stopOf, told-accepted, told-refused, told-steps, told-looks, accepting-determinant, accepting-products, accepting-generated, accepting-signs, accepting-steps, accepting-stays, accepting-axes}
 use Rattle.laws.specs.Stacks as Stacks
@@ -116,8 +116,8 @@ module _ (solid : Solid) (bytes : List ℕ) (p : Vector) (frame reach : ℤ) whe
   looks-at-most-13745 = told-looks solid bytes p frame reach 13745 (λ h. few-looks R (max R 3) h (omega arith))
 
   -- each axis was asked, and v has those that are level
-  abbrev pub Asked : Levels → Type 0
-  Asked = AxesAsked (look solid bytes) (p ⊕ signs (natAbs frame)) (signs (natAbs frame)) (powers (natAbs reach))
+  abbrev pub Answered : Levels → Type 0
+  Answered = LevelsAnswered (look solid bytes) (p ⊕ signs (natAbs frame)) (signs (natAbs frame)) (powers (natAbs reach))
 
   -- ---- an accepted pick
   module _ (a : AcceptedPick) (is : pickOf solid bytes p frame reach ≡ Accepted a) where
@@ -128,7 +128,7 @@ module _ (solid : Solid) (bytes : List ℕ) (p : Vector) (frame reach : ℤ) whe
     signed = signs-are (natAbs frame)
 
     -- an axis is level exactly if the normal's part is 0
-    pub accepted-levels : Asked (levelsOf (a .normal))
+    pub accepted-levels : Answered (levelsOf (a .normal))
     accepted-levels = accepting-axes accepting signed
 
     -- the other parts have the frame's sign
@@ -169,25 +169,25 @@ module _ (solid : Solid) (bytes : List ℕ) (p : Vector) (frame reach : ℤ) whe
       base-sides v h = two-sides (a .triangle) v (subst (λ l. Combines (generators l (a .triangle)) v) unlevel (accepted-generated v h))
 
   -- ---- a refused pick that took a step had asked the axes: at most the reach less those that remain
-  pub refused-steps : (r : RefusedPick) → pickOf solid bytes p frame reach ≡ Refused r → 1 ≤ r .steps → (v : Levels) × Asked v × (r .steps ≤ natAbs reach - length (remaining v))
-  refused-steps r is h = let a = told-refused solid bytes p frame reach r is .fewSteps .asked h in (a .0, axes-asked _ _ _ _ (a .1), a .2)
+  pub refused-steps : (r : RefusedPick) → pickOf solid bytes p frame reach ≡ Refused r → 1 ≤ r .steps → (v : Levels) × Answered v × (r .steps ≤ natAbs reach - length (remaining v))
+  refused-steps r is h = let a = told-refused solid bytes p frame reach r is .fewSteps .asked h in (a .0, levels-answered _ _ _ _ (a .1), a .2)
 
   -- so with no level axis at most R - 3, refused or accepted, as document 01 has it
-  pub base-steps-at-most : Asked (levels false false false) → stepsOf (pickOf solid bytes p frame reach) ≤ natAbs reach - 3
+  pub base-steps-at-most : Answered (levels false false false) → stepsOf (pickOf solid bytes p frame reach) ≤ natAbs reach - 3
   unfolding remaining only keep
   base-steps-at-most none = go (pickOf solid bytes p frame reach) refl
     where
-      same : (v : Levels) → Asked v → v ≡ levels false false false
+      same : (v : Levels) → Answered v → v ≡ levels false false false
       same v h = levels-eq (λ k. let e = sym (h k .1) ∙ none k .1 in cc e)
 
-      three : (n : ℕ) (v : Levels) → Asked v → n ≤ natAbs reach - length (remaining v) → n ≤ natAbs reach - 3
+      three : (n : ℕ) (v : Levels) → Answered v → n ≤ natAbs reach - length (remaining v) → n ≤ natAbs reach - 3
       three n v h k = subst (λ (v : Levels). n ≤ natAbs reach - length (remaining v)) (same v h) k
 
       go : (x : Pick) → pickOf solid bytes p frame reach ≡ x → stepsOf x ≤ natAbs reach - 3
       go (Accepted a) is = three (a .steps) (levelsOf (a .normal)) (accepted-levels a is) (accepted-steps a is)
       go (Refused r) is = refused (r .steps) (refused-steps r is)
         where
-          refused : (n : ℕ) → (1 ≤ n → (v : Levels) × Asked v × (n ≤ natAbs reach - length (remaining v))) → n ≤ natAbs reach - 3
+          refused : (n : ℕ) → (1 ≤ n → (v : Levels) × Answered v × (n ≤ natAbs reach - length (remaining v))) → n ≤ natAbs reach - 3
           refused zero h = omega arith
           refused (suc n) h = let a = h (omega arith) in three (suc n) (a .0) (a .1) (a .2)
 

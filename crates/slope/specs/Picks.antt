@@ -27,8 +27,8 @@ use Rattle.laws.specs.Flat.{units-flat, raise, raised, Lies}
 use Rattle.laws.specs.Frames.{Signs, signs-are, lay-lay, lay-scale, dot-apex, lay-size, sum-size, lay-part-zero}
 use Rattle.laws.specs.Says.{Says, Few, says-answer, says-weaker, says-bind, few-bind, few-fewer, says-asked, says-ensure}
 use Rattle.laws.specs.Looks.{As, IsOutside, Fell, look-says}
-use Rattle.laws.specs.Next.{AxesAsked}
-use Rattle.laws.specs.Axes.{FellAlong, AxisOf, AxesOf, axes-asked, AxisRule, axes-says}
+use Rattle.laws.specs.Next.{LevelsAnswered}
+use Rattle.laws.specs.Axes.{FellAlong, AxisOf, AxesOf, levels-answered, AxisRule, axes-says}
 use Rattle.laws.specs.Powers.{Reaches, powers-reach, up-to-reaches, looks-add-up}
 use Rattle.laws.specs.Walks.{walk-says}
 use Rattle.laws.specs.Boxes.{look-told}
@@ -219,14 +219,14 @@ module _ (n : Vector) (t : ℤ) (i : Inputs) (o : OnSlope n t i) where
   not-outside true a e p l h = absurd (let z : _≡_ {A = ℕ} 0 1 = cc (sym e ∙ h .holds .1) in omega arith)
   not-outside false a e p l h = absurd (let z : _≡_ {A = ℕ} 0 1 = cc (sym e ∙ h .holds .1) in omega arith)
 
-  start-says : Says (λ a l. (a ≡ v) × AxesAsked lookOf q s (powers R) v × (l + r * K ≤ 2 + 6 * K)) Stops (start lookOf s (i .start) q R)
+  start-says : Says (λ a l. (a ≡ v) × LevelsAnswered lookOf q s (powers R) v × (l + r * K ≤ 2 + 6 * K)) Stops (start lookOf s (i .start) q R)
   unfolding start
   start-says =
       says-bind {P = Few 1 (λ b. lookOf (i .start) ≡ As b)} {G = Stops} _ _ (says-asked 0 _ (not-outside true (i .start) (o .touched .startFilled)) (look-says lookOf (i .start))) (λ e l h. h) (λ f l h.
       says-ensure f _ _ (λ z. absurd (filled-only f z (sym (h .holds) ∙ o .touched .startFilled))) (λ _.
       says-bind {P = Few 1 (λ b. lookOf q ≡ As b)} {G = Stops} _ _ (says-asked 0 _ (not-outside false q (o .touched .apexEmpty)) (look-says lookOf q)) (λ e l h. h) (λ f k j.
       says-ensure (not f) _ _ (λ z. absurd (empty-only f z (sym (j .holds) ∙ o .touched .apexEmpty))) (λ _.
-      says-weaker _ (λ a z x. (levels-are a (x .0), subst (AxesAsked lookOf q s (powers R)) (levels-are a (x .0)) (axes-asked lookOf q s (powers R) (x .0)), asked a l k z (levels-are a (x .0)) (h .few) (j .few) (x .1))) (λ e z x. x .holds)
+      says-weaker _ (λ a z x. (levels-are a (x .0), subst (LevelsAnswered lookOf q s (powers R)) (levels-are a (x .0)) (levels-answered lookOf q s (powers R) (x .0)), asked a l k z (levels-are a (x .0)) (h .few) (j .few) (x .1))) (λ e z x. x .holds)
       (axes-says lookOf q s (powers R) axis-rule (λ h. absurd (not-all h)))))))
     where
       asked : (a : Levels) (l k z : ℕ) → a ≡ v → l ≤ 1 → k ≤ 1 → z + length (remaining a) * K ≤ 6 * K → l + (k + z) + r * K ≤ 2 + 6 * K
@@ -250,14 +250,14 @@ module _ (n : Vector) (t : ℤ) (i : Inputs) (o : OnSlope n t i) where
   end-says : (e : Triangle × ℕ) → e ≡ ideally → Says (Few 0 (λ f. f ≡ found s q v ideally)) (Few 0 EdgeHere) (ensure (leb (size (levelled v (normal (e .0)))) R) (stop 10 q (e .1)) >> answered (found s q v e) [])
   end-says e k = rw k (passes (leb (size (levelled v (normal (ideally .0)))) R) _ _ end-fits (says-answer (record { holds = refl; few = omega arith })))
 
-  rounds-says : AxesAsked lookOf q s (powers R) v → Says (Few M (λ f. f ≡ found s q v ideally)) (Few M EdgeHere) (rounds lookOf s q R v)
+  rounds-says : LevelsAnswered lookOf q s (powers R) v → Says (Few M (λ f. f ≡ found s q v ideally)) (Few M EdgeHere) (rounds lookOf s q R v)
   unfolding rounds
   rounds-says asked =
       few-fewer _ (omega arith)
       (few-bind {N = 0} _ _ (walk-says lookOf q s (powers R) (only (takesPart v) pairs) (slope-walk near s (powers R) reaches v lies asked ideally) (R - r) (w - r) 0 units
       (record { enough = omega (arith, fits); upright = upright; lower = begin; same = refl; reached = refl })) end-says)
 
-  rounds-of : (a : Levels) → a ≡ v → AxesAsked lookOf q s (powers R) v → Says (Few M (λ f. f ≡ found s q v ideally)) (Few M EdgeHere) (rounds lookOf s q R a)
+  rounds-of : (a : Levels) → a ≡ v → LevelsAnswered lookOf q s (powers R) v → Says (Few M (λ f. f ≡ found s q v ideally)) (Few M EdgeHere) (rounds lookOf s q R a)
   rounds-of a e asked = rw e (rounds-says asked)
 
   abbrev pub fewest : ℕ

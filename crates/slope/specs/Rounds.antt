@@ -22,7 +22,7 @@ use Rattle.laws.specs.Only.{only-holds, only-in}
 use Rattle.laws.specs.Flat.{Flat, Lies, raised, raised-way}
 use Rattle.laws.specs.Frames.{lay-dot}
 use Rattle.laws.specs.Looks.{Fell, FellOf, RoundOf}
-use Rattle.laws.specs.Next.{AxesAsked, Reached, sideways, NextLook, next-look}
+use Rattle.laws.specs.Next.{LevelsAnswered, Reached, sideways, NextLook, next-look}
 use Rattle.laws.specs.Powers.{Reaches}
 use Rattle.laws.specs.Walks.{WalkRule}
 use Rattle.slope.specs.Falls.{Near, fell-is}
@@ -38,7 +38,7 @@ module _ {look : Vector → Look} {n : Vector} {t : ℤ} {q : Vector} {R : ℕ} 
   pub fell-lay : (u : Vector) (b : Bool) → Fell look q (lay s u) ls b → b ≡ ltZ (dot (lay s n) u) (pos 0)
   fell-lay u b f = rw (lay-dot s n u) (fell-is near (lay s u) ls reaches b f)
 
-  module _ (v : Levels) (lies : Lies v (lay s n)) (asked : AxesAsked look q s ls v) where
+  module _ (v : Levels) (lies : Lies v (lay s n)) (asked : LevelsAnswered look q s ls v) where
     abbrev N : Vector
     N = raised v (lay s n)
 
