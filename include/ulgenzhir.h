@@ -17,17 +17,23 @@
  *     read, during the call.
  *
  * Numbers. 0 is success. Of a pick, in the order they are judged:
- *    1  reach outside 3 to 256                            place 0 0 0
+ *    1  reach outside 1 to 256                            place 0 0 0
  *    2  frame outside 0 to 7                              place 0 0 0
  *    3  wedge number or stack size out of range,
  *       or too few bytes for the stack                    place 0 0 0
  *    4  the start, or else the apex, is outside the box   that point
  *    5  the start is not filled                           the start
  *    6  the apex is filled                                the apex
- *    7  minus the unit vector of an axis does not fall    apex less that vector
+ *    7  minus an axis's unit vector does not fall, but
+ *       the unit vector does                              apex less that vector
+ *       or all three axes are level                       apex less axis 0's
  *    8  a voxel to be looked at is outside the box        that point
- *    9  reach - 3 steps are done and a pair still falls   the apex
+ *    9  the steps allowed are done and a pair still
+ *       falls                                             the apex
  *   10  the sizes of the normal add to more than reach    the apex
+ * An axis is level if neither its unit vector nor minus it falls. The steps
+ * allowed are reach less the number of axes that are not level, and none if
+ * that is below zero.
  * Of reading a stack, front to back:
  *   21  no "P4" where an image begins                     offset of the image
  *   22  the header does not fit the rule                  offset of the first wrong byte,
@@ -56,7 +62,8 @@ typedef struct {
 
 /*
  * number 0: accepted, place 0 0 0; the normal, the triangle vectors and the
- * apex are laid into the box.
+ * apex are laid into the box. A level axis has 0 in the normal, and its vector
+ * is the unit vector with the frame's sign.
  * Refused: normal, m0, m1, m2, apex all zero.
  * steps and looks are those made so far in either case.
  */

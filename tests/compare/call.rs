@@ -78,6 +78,16 @@ impl Answer {
         }
     }
 
+    /// How many axes are level in an accepted pick: the parts of its normal that are 0.
+    pub fn level_axes(&self) -> usize {
+        match self {
+            Answer::Pick(Pick { number: 0, normal: Point { x, y, z }, .. }) => {
+                [x, y, z].iter().filter(|&&&part| part == 0).count()
+            }
+            _ => 0,
+        }
+    }
+
     /// In words; the buffer only where it differs from the other answer's.
     pub fn told(&self, other: &Answer) -> String {
         match (self, other) {

@@ -3,9 +3,7 @@
 use crate::call::{Call, Lent};
 use crate::chance::Chance;
 use crate::stacks::on_stack;
-use second::listed::{
-    slope_stack, sum_above_reach_stack, DISPLAYS, LINES, READS, SLOPE_STACKS, WRITES,
-};
+use second::listed::{sum_above_reach_stack, DISPLAYS, LINES, READS, STACKS, WRITES};
 use second::session::numbers;
 
 pub fn calls(chance: &mut Chance, _: u64) -> Vec<Call> {
@@ -25,8 +23,8 @@ fn lines() -> Vec<Call> {
 
 fn stacks() -> Vec<Call> {
     let mut calls = Vec::new();
-    for case in SLOPE_STACKS {
-        let (_, bytes) = slope_stack(case.side, case.slope);
+    for case in STACKS {
+        let (_, bytes) = case.stack();
         let asked = on_stack([case.side; 3], bytes, case.start, 0, case.reach);
         calls.push(Call::Stack(asked));
     }

@@ -2,9 +2,9 @@
 
 use crate::call::{Call, OnStack};
 use crate::chance::Chance;
-use crate::wedge_lines::{frame, level, reach, sizes_of_normal};
+use crate::wedge_lines::{frame, height, normal_in_frame, reach};
 use second::pick::pick;
-use second::point::{dot, lay, minus, plus, signs, Point};
+use second::point::{dot, lay, minus, plus, signs, times, Point, UNITS};
 use second::solid::{Sizes, Solid};
 use std::cell::RefCell;
 use std::collections::HashMap;
@@ -80,11 +80,11 @@ fn start(chance: &mut Chance, sides: Point) -> Point {
     })
 }
 
-/// A slope at some level of q, then perhaps some voxels turned over.
+/// A slope with q at some height, then perhaps some voxels turned over.
 fn slope(chance: &mut Chance, sides: Point, start: Point, signs: Point, reach: i64) -> Block {
-    let sizes = sizes_of_normal(chance, reach);
-    let normal = lay(signs, sizes);
-    let h = dot(normal, plus(start, signs)) - level(chance, sizes.iter().sum());
+    let parts = normal_in_frame(chance, reach);
+    let normal = lay(signs, parts);
+    let h = dot(normal, plus(start, signs)) - height(chance, parts.iter().sum());
     let mut block = Block::of(chance, sides, |point| dot(normal, point) < h);
     if chance.percent(30) {
         let most = chance.one_of(&[1, 5, 50]);
@@ -96,13 +96,18 @@ fn slope(chance: &mut Chance, sides: Point, start: Point, signs: Point, reach: i
     block
 }
 
-/// Empty but for p, voxels beside q on each axis, and a few near it.
+/// Empty but for p, voxels beside q on the axes, below it or opposite, and a few near it.
 fn few(chance: &mut Chance, sides: Point, start: Point, signs: Point) -> Block {
     let apex = plus(start, signs);
     let mut block = Block::of(chance, sides, |_| false);
     block.set(start, true);
-    for unit in second::point::UNITS {
-        block.set(minus(apex, lay(signs, unit)), !chance.percent(3));
+    for unit in UNITS {
+        let beside = lay(signs, unit);
+        match chance.below(40) {
+            0 => block.set(plus(apex, beside), true),
+            1..=7 => {}
+            _ => block.set(minus(apex, beside), true),
+        }
     }
     let room = chance.one_of(&[1, 2, 2, 3, 5]);
     for _ in 0..chance.between(0, 12) {
@@ -112,15 +117,32 @@ fn few(chance: &mut Chance, sides: Point, start: Point, signs: Point) -> Block {
     block
 }
 
+/// Axes that are to be level: often none, never all.
+fn level_axes(chance: &mut Chance) -> [bool; 3] {
+    let mut level = [false; 3];
+    for _ in 0..chance.one_of(&[0, 0, 0, 1, 1, 2]) {
+        level[chance.below(3) as usize] = true;
+    }
+    level
+}
+
+/// Noise that is the same all along each level axis.
 fn noise(chance: &mut Chance, sides: Point, start: Point, signs: Point) -> Block {
     let density = chance.one_of(&[5, 20, 50, 80, 95]);
-    let draw = RefCell::new(Chance::of(chance.bits(), "noise", 0));
-    let mut block = Block::of(chance, sides, |_| draw.borrow_mut().percent(density));
-    if chance.percent(80) {
-        block.set(start, true);
-        block.set(plus(start, signs), false);
-    }
-    block
+    let level = level_axes(chance);
+    let across = |point: Point| [0, 1, 2].map(|axis| if level[axis] { 0 } else { point[axis] });
+    let good_start = chance.percent(80);
+    let seed = chance.bits();
+    Block::of(chance, sides, |point| {
+        let place @ [x, y, z] = across(point);
+        if good_start && place == across(start) {
+            true
+        } else if good_start && place == across(plus(start, signs)) {
+            false
+        } else {
+            Chance::of(seed, "noise", (x + 256 * (y + 256 * z)) as u64).percent(density)
+        }
+    })
 }
 
 fn block(chance: &mut Chance, sides: Point, start: Point, signs: Point, reach: i64) -> Block {
@@ -155,7 +177,7 @@ pub fn any(chance: &mut Chance, _: u64) -> Vec<Call> {
     let sides = sides(chance);
     let start = start(chance, sides);
     let (frame, reach) = (frame(chance), reach(chance));
-    let reach = if chance.percent(60) { chance.between(3, 7) } else { reach };
+    let reach = if chance.percent(60) { chance.between(1, 7) } else { reach };
     let Block { mut bytes, .. } = block(chance, sides, start, signs(frame & 7), reach);
     if chance.percent(50) {
         let behind = chance.len_to(40);
@@ -182,10 +204,26 @@ pub fn on_stack(sides: Point, bytes: Vec<u8>, start: Point, frame: i64, reach: i
 /// its walk goes on for long and meets every kind of round.
 struct Unforeseen {
     sides: Point,
+    apex: Point,
+    level: [bool; 3],
     chance: RefCell<Chance>,
     /// How many in a hundred are filled.
     density: u64,
     decided: RefCell<HashMap<Point, bool>>,
+}
+
+impl Unforeseen {
+    /// How many in a hundred are filled here: along a level axis from q hardly any, so that it
+    /// mostly stays level; along another so many that it mostly falls.
+    fn density_at(&self, point: Point) -> u64 {
+        let from_apex = minus(point, self.apex);
+        let along = |axis: usize| from_apex == times(from_apex[axis], UNITS[axis]);
+        match (0..3).find(|&axis| along(axis)) {
+            Some(axis) if self.level[axis] => 1,
+            Some(_) => 90,
+            None => self.density,
+        }
+    }
 }
 
 impl Solid for Unforeseen {
@@ -200,12 +238,11 @@ impl Solid for Unforeseen {
     fn filled(&self, point: Point) -> bool {
         let mut decided = self.decided.borrow_mut();
         let looked_at = decided.len();
-        // p is filled, q is empty, the next few are filled so that the axes fall.
+        // p is filled, q is empty.
         *decided.entry(point).or_insert_with(|| match looked_at {
             0 => true,
             1 => false,
-            2..=4 => self.chance.borrow_mut().percent(90),
-            _ => self.chance.borrow_mut().percent(self.density),
+            _ => self.chance.borrow_mut().percent(self.density_at(point)),
         })
     }
 }
@@ -216,9 +253,11 @@ pub fn unforeseen(chance: &mut Chance, _: u64) -> Vec<Call> {
     let sides = [0, 1, 2].map(|_| side - chance.between(0, 7));
     let start = sides.map(|side| side / 2 + chance.between(-2, 2));
     let (frame, most) = (chance.between(0, 7), chance.one_of(&[6, 8, 16, 32, 64, 128]));
-    let reach = chance.between(3, most);
+    let reach = chance.between(1, most);
     let solid = Unforeseen {
         sides,
+        apex: plus(start, signs(frame)),
+        level: level_axes(chance),
         chance: RefCell::new(Chance::of(chance.bits(), "decided", 0)),
         density: chance.one_of(&[5, 15, 30, 50, 70, 90]),
         decided: RefCell::default(),

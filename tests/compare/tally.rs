@@ -1,5 +1,6 @@
 //! How many calls were compared, and which answers came up how often.
 
+use crate::call::Answer;
 use std::collections::BTreeMap;
 use std::fmt;
 
@@ -10,9 +11,14 @@ pub struct Tally {
 }
 
 impl Tally {
-    pub fn call(&mut self, number: u32) {
+    /// By its number, an accepted pick also by how many axes are level.
+    pub fn call(&mut self, answer: &Answer) {
         self.calls += 1;
-        self.note(&number.to_string(), 1);
+        self.note(&answer.number().to_string(), 1);
+        match answer.level_axes() {
+            0 => {}
+            axes => self.note(&format!("level{axes}"), 1),
+        }
     }
 
     pub fn note(&mut self, label: &str, times: u64) {

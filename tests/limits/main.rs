@@ -1,10 +1,11 @@
 //! Measures with the second program how the reach and the box decide refusal 8 ("edge"): how many
 //! normals can be accepted anywhere. Prints the tables of docs/LIMITS.md.
 //!
-//! All normals are positive with no common divisor (frame 0; the other frames are its mirror
-//! images). Only level e = 0 is walked: from there each vector that falls does so at power 1, and
-//! every other is looked at at all powers whatever the level, so any other level looks at those
-//! points and more. For the small reaches that is checked by walking every level.
+//! All normals have no part below 0 and no common divisor (frame 0; the other frames are its
+//! mirror images). They are counted by how many axes are level. Only height 0 of q above the plane
+//! is walked: from there each vector that falls does so at power 1, and every other is looked at
+//! at all powers whatever the height, so any other height looks at those points and more. For the
+//! small reaches that is checked by walking every height.
 
 #[path = "../shared/roomy.rs"]
 mod roomy;
@@ -16,20 +17,24 @@ use second::solid::{Solid, Stack, Wedge, WEDGE_SIDE};
 
 const REACHES: [i64; 6] = [8, 16, 32, 64, 128, 256];
 const STACK_SIDE: i64 = 256;
-/// Up to here every level is walked too.
-const EVERY_LEVEL_TO: i64 = 32;
+/// Up to here every height is walked too.
+const EVERY_HEIGHT_TO: i64 = 32;
 
 fn main() {
     for (name, side) in [("Wedge (box 1024)", WEDGE_SIDE), ("Stack (box 256)", STACK_SIDE)] {
-        let rows: Vec<Measured> = REACHES.iter().map(|&reach| measured(reach, side)).collect();
+        let [none, one, two] = [0, 1, 2].map(|level| {
+            REACHES.iter().map(|&reach| measured(reach, side, level)).collect::<Vec<Measured>>()
+        });
         println!("{name}\n");
-        print_accepted(&rows);
-        print_by_sum(&rows);
+        print_accepted(&none);
+        print_by_sum(&none);
+        println!("{name}, one level axis; of the three normals with two, accepted somewhere\n");
+        print_level(&one, &two);
     }
 }
 
-/// For one reach and one box: how many normals there are and how many are accepted somewhere, by
-/// their sum w.
+/// For one reach, one box and one number of level axes: how many normals there are and how many
+/// are accepted somewhere, by their sum w.
 struct Measured {
     reach: i64,
     normals: Vec<u64>,
@@ -43,15 +48,24 @@ impl Measured {
 
     /// The largest w such that every normal of at most that sum is accepted somewhere.
     fn all_accepted_to(&self) -> usize {
-        let missed = (3..self.normals.len()).find(|&w| self.accepted[w] < self.normals[w]);
+        let missed = (1..self.normals.len()).find(|&w| self.accepted[w] < self.normals[w]);
         missed.unwrap_or(self.normals.len()) - 1
+    }
+
+    /// As a row of a table.
+    fn told(&self) -> String {
+        let all: u64 = self.normals.iter().sum();
+        let accepted: u64 = self.accepted.iter().sum();
+        let share = 100.0 * accepted as f64 / all as f64;
+        let to = if accepted == 0 { "none".into() } else { self.all_accepted_to().to_string() };
+        format!("| {} | {all} | {accepted} | {share:.2}% | {to} |", self.reach)
     }
 }
 
-fn measured(reach: i64, side: i64) -> Measured {
+fn measured(reach: i64, side: i64, level_axes: usize) -> Measured {
     let mut normals = vec![0; reach as usize + 1];
     let mut accepted = normals.clone();
-    for_each_normal(reach, |normal| {
+    for_each_normal(reach, level_axes, |normal| {
         let w: i64 = normal.iter().sum();
         normals[w as usize] += 1;
         accepted[w as usize] += u64::from(somewhere(normal, reach, side));
@@ -67,30 +81,35 @@ fn divisor(a: i64, b: i64) -> i64 {
     }
 }
 
-fn for_each_normal(most: i64, mut each: impl FnMut(Point)) {
-    for a in 1..=most - 2 {
-        for b in 1..=most - a - 1 {
+fn for_each_normal(most: i64, level_axes: usize, mut each: impl FnMut(Point)) {
+    for a in 0..=most {
+        for b in 0..=most - a {
             let common = divisor(a, b);
-            (1..=most - a - b).filter(|&c| divisor(common, c) == 1).for_each(|c| each([a, b, c]));
+            for c in (0..=most - a - b).filter(|&c| divisor(common, c) == 1) {
+                let zeros = [a, b, c].iter().filter(|&&part| part == 0).count();
+                if zeros == level_axes {
+                    each([a, b, c]);
+                }
+            }
         }
     }
 }
 
 const START: Point = [-1, -1, -1];
 
-/// The walk of a slope whose q is the origin, this level above the plane.
-fn walk(normal: Point, level: i64, reach: i64, side: i64) -> (Pick, Point) {
-    let solid = Roomy::new(side, START, |point| dot(normal, point) + level < 0);
+/// The walk of a slope whose q is the origin, this height above the plane.
+fn walk(normal: Point, height: i64, reach: i64, side: i64) -> (Pick, Point) {
+    let solid = Roomy::new(side, START, |point| dot(normal, point) + height < 0);
     let answer = pick(&solid, START, 0, reach);
     (answer, solid.shift())
 }
 
 fn somewhere(normal: Point, reach: i64, side: i64) -> bool {
     let (answer, shift) = walk(normal, 0, reach, side);
-    if reach <= EVERY_LEVEL_TO {
+    if reach <= EVERY_HEIGHT_TO {
         let w = normal.iter().sum();
-        let other = (1..w).any(|level| walk(normal, level, reach, side).0.is_ok());
-        assert!(answer.is_ok() || !other, "{normal:?} is accepted at another level alone");
+        let other = (1..w).any(|height| walk(normal, height, reach, side).0.is_ok());
+        assert!(answer.is_ok() || !other, "{normal:?} is accepted at another height alone");
     }
     match answer {
         Ok(record) => {
@@ -121,17 +140,19 @@ fn check_in_true_box(normal: Point, reach: i64, side: i64, shift: Point) {
     }
 }
 
+const HEAD: &str =
+    "| reach | normals of w ≤ reach | accepted somewhere | share | all accepted up to w |";
+
 fn print_accepted(rows: &[Measured]) {
-    println!(
-        "| reach | normals of w ≤ reach | accepted somewhere | share | all accepted up to w |"
-    );
-    println!("|---|---|---|---|---|");
-    for row in rows {
-        let all: u64 = row.normals.iter().sum();
-        let accepted: u64 = row.accepted.iter().sum();
-        let share = 100.0 * accepted as f64 / all as f64;
-        let to = if accepted == 0 { "none".into() } else { row.all_accepted_to().to_string() };
-        println!("| {} | {all} | {accepted} | {share:.2}% | {to} |", row.reach);
+    println!("{HEAD}\n|---|---|---|---|---|");
+    rows.iter().for_each(|row| println!("{}", row.told()));
+    println!();
+}
+
+fn print_level(one: &[Measured], two: &[Measured]) {
+    println!("{HEAD} two level axes |\n|---|---|---|---|---|---|");
+    for (row, with_two) in one.iter().zip(two) {
+        println!("{} {} |", row.told(), with_two.accepted.iter().sum::<u64>());
     }
     println!();
 }

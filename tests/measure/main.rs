@@ -21,6 +21,7 @@ mod worst;
 
 use chance::Chance;
 use second::listed::slope_stack;
+use second::pick::Record;
 use second::point::dot;
 use second::session::pick_of;
 use second::solid::WEDGE_SIDE;
@@ -88,14 +89,18 @@ fn timed<I, A: PartialEq + Debug>(
     Timed { name: name.into(), library: median(ours), plain: median(theirs), ratio }
 }
 
-/// Accepted picks of seeded slopes with this reach.
-fn typical_lines(reach: i64, count: usize) -> Vec<[i32; 9]> {
+/// Accepted picks of seeded slopes with this reach and so many level axes. (Two leave no step.)
+fn typical_lines(reach: i64, level_axes: usize, count: usize) -> Vec<[i32; 9]> {
     let mut chance = Chance::of(1, "typical", reach as u64);
     let mut lines = Vec::new();
     while lines.len() < count {
         let mut line = wedge_lines::line(&mut chance);
         line[8] = reach as i32;
-        if pick_of(line.map(i64::from)).map_or(false, |record| record.steps > 0) {
+        let typical = |record: Record| {
+            let zeros = record.normal.iter().filter(|&&part| part == 0).count();
+            zeros == level_axes && (record.steps > 0 || zeros == 2)
+        };
+        if pick_of(line.map(i64::from)).map_or(false, typical) {
             lines.push(line);
         }
     }
@@ -134,9 +139,10 @@ fn typical_stacks(rows: &mut Vec<Timed>) {
 
 fn picks(rows: &mut Vec<Timed>) -> Vec<String> {
     let mut notes = Vec::new();
-    for reach in [8, 16, 32] {
-        let lines = typical_lines(reach, 400);
-        let name = format!("typical picks, wedge, reach {reach}");
+    for (reach, level_axes) in [(8, 0), (16, 0), (32, 0), (16, 1), (16, 2)] {
+        let lines = typical_lines(reach, level_axes, 400);
+        let faces = ["", ", one level axis", ", two level axes"][level_axes];
+        let name = format!("typical picks, wedge, reach {reach}{faces}");
         rows.push(timed(
             &name,
             &lines,

@@ -126,44 +126,76 @@ impl<S: Solid> Walk<'_, S> {
         }
     }
 
-    fn begin(&mut self, start: Vector) -> Result<(), Stop> {
+    /// Which axes are level.
+    fn begin(&mut self, start: Vector) -> Result<[bool; 3], Stop> {
         if !self.look(start)? {
             return Err(Stop(5, start));
         }
         if self.look(self.apex)? {
             return Err(Stop(6, self.apex));
         }
-        for unit in UNITS {
+        let mut level = [false; 3];
+        for (level, unit) in level.iter_mut().zip(UNITS) {
             if !self.falls(times(-1, unit))? {
-                return Err(Stop(7, minus(self.apex, lay(self.signs, unit))));
+                if self.falls(unit)? {
+                    return Err(self.beside_apex(unit));
+                }
+                *level = true;
             }
         }
-        Ok(())
+        if level == [true; 3] {
+            return Err(self.beside_apex(UNITS[0]));
+        }
+        Ok(level)
     }
 
-    fn rounds(&mut self) -> Result<[Vector; 3], Stop> {
+    fn beside_apex(&self, unit: Vector) -> Stop {
+        Stop(7, minus(self.apex, lay(self.signs, unit)))
+    }
+
+    /// Rounds over the pairs that take part, with so many steps (none if below zero).
+    fn rounds<const N: usize>(
+        &mut self,
+        pairs: [(usize, usize); N],
+        allowed: i32,
+    ) -> Result<[Vector; 3], Stop> {
         let mut m = UNITS;
         loop {
-            let mut falling = [false; 6];
-            for (fell, (k, l)) in falling.iter_mut().zip(PAIRS) {
+            let mut falling = [false; N];
+            for (fell, (k, l)) in falling.iter_mut().zip(pairs) {
                 *fell = self.falls(minus(m[l], m[k]))?;
             }
-            if falling == [false; 6] {
+            if falling == [false; N] {
                 return Ok(m);
             }
-            if self.steps as i32 == self.reach - 3 {
+            if self.steps as i32 >= allowed {
                 return Err(Stop(9, self.apex));
             }
-            let (k, l) = choice(&m, falling);
+            let (k, l) = choice(&m, pairs, falling);
             m[k] = minus(m[k], m[l]);
             self.steps += 1;
         }
     }
 
+    /// The rounds of the axes that are not level; one axis alone has no pair.
+    fn walk(&mut self, level: [bool; 3]) -> Result<[Vector; 3], Stop> {
+        let reach = self.reach;
+        match level {
+            [false, false, false] => self.rounds(PAIRS, reach - 3),
+            [true, false, false] => self.rounds([(1, 2), (2, 1)], reach - 2),
+            [false, true, false] => self.rounds([(0, 2), (2, 0)], reach - 2),
+            [false, false, true] => self.rounds([(0, 1), (1, 0)], reach - 2),
+            _ => Ok(UNITS),
+        }
+    }
+
     fn end(&mut self, start: Vector) -> Result<Pick, Stop> {
-        self.begin(start)?;
-        let m = self.rounds()?;
-        let n = plus(plus(cross(m[0], m[1]), cross(m[1], m[2])), cross(m[2], m[0]));
+        let level = self.begin(start)?;
+        let m = self.walk(level)?;
+        let mut n = plus(plus(cross(m[0], m[1]), cross(m[1], m[2])), cross(m[2], m[0]));
+        for axis in (0..3).filter(|&axis| level[axis]) {
+            n[axis] = 0;
+        }
         if n.iter().map(|part| part.abs()).sum::<i32>() > self.reach {
             return Err(Stop(10, self.apex));
         }
@@ -206,18 +238,22 @@ fn determinant(upper: &[i64; 6], lower: [i64; 6]) -> i64 {
 
 /// The first falling pair of which no other is inside its sphere. As in the library, each falling
 /// pair is compared with the best so far alone.
-fn choice(m: &[Vector; 3], falling: [bool; 6]) -> (usize, usize) {
+fn choice<const N: usize>(
+    m: &[Vector; 3],
+    pairs: [(usize, usize); N],
+    falling: [bool; N],
+) -> (usize, usize) {
     let upper = minors(row(minus(m[0], m[1])), row(minus(m[0], m[2])));
     let mut best: Option<(usize, Row)> = None;
-    for pair in (0..6).filter(|&pair| falling[pair]) {
-        let (k, l) = PAIRS[pair];
+    for pair in (0..N).filter(|&pair| falling[pair]) {
+        let (k, l) = pairs[pair];
         let own = row(plus(minus(m[l], m[k]), m[0]));
         best = match best {
             Some((_, kept)) if determinant(&upper, minors(kept, own)) >= 0 => best,
             _ => Some((pair, own)),
         };
     }
-    PAIRS[best.expect("a pair falls").0]
+    pairs[best.expect("a pair falls").0]
 }
 
 fn refused(number: u32, place: Vector, steps: u32, looks: u32) -> Pick {
@@ -225,7 +261,7 @@ fn refused(number: u32, place: Vector, steps: u32, looks: u32) -> Pick {
 }
 
 fn pick<S: Solid>(solid: &S, permitted: bool, start: Vector, frame: i32, reach: i32) -> Pick {
-    if !(3..=256).contains(&reach) {
+    if !(1..=256).contains(&reach) {
         return refused(1, [0; 3], 0, 0);
     }
     if !(0..=7).contains(&frame) {

@@ -16,32 +16,33 @@ pub fn looks(answer: Pick) -> u32 {
     answer.map_or_else(|refusal| refusal.looks, |record| record.looks)
 }
 
-/// A slope seen from q at the origin: normal, level, reach.
+/// A slope seen from q at the origin: normal, height, reach.
 type Slope = (Point, i64, i64);
 
-fn slope_looks((normal, level, reach): Slope, side: i64) -> (u32, Point) {
-    let solid = Roomy::new(side, START, |point| dot(normal, point) + level < 0);
+fn slope_looks((normal, height, reach): Slope, side: i64) -> (u32, Point) {
+    let solid = Roomy::new(side, START, |point| dot(normal, point) + height < 0);
     (looks(pick(&solid, START, 0, reach)), solid.shift())
 }
 
+/// No axis is level: a level one takes no part in the pairs, so there are fewer looks.
 fn any_slope(chance: &mut Chance) -> Slope {
     let most = chance.one_of(&[20, 60, 200, 1000]);
     let normal = [0, 1, 2].map(|_| chance.between(1, most));
     (normal, chance.between(0, normal.iter().sum::<i64>() - 1), chance.one_of(&REACHES))
 }
 
-fn changed_slope(chance: &mut Chance, (mut normal, level, reach): Slope) -> Slope {
+fn changed_slope(chance: &mut Chance, (mut normal, height, reach): Slope) -> Slope {
     let axis = chance.below(3) as usize;
     let by = chance.one_of(&[1, 1, 3, 20]);
     let part = normal[axis] + chance.between(-by, by);
     normal[axis] = part.clamp(1, 1000);
     let highest = normal.iter().sum::<i64>() - 1;
-    let level = match chance.below(3) {
+    let height = match chance.below(3) {
         0 => highest,
         1 => chance.between(0, highest),
-        _ => level.min(highest),
+        _ => height.min(highest),
     };
-    (normal, level, reach)
+    (normal, height, reach)
 }
 
 /// Where one climb over slopes ends: a b c h, p, frame, R, and the looks.
@@ -61,11 +62,11 @@ pub fn worst_slope(side: i64, climb: u64, changes: u64) -> ([i32; 9], u32) {
 
 /// The slope where its looks fit the true box.
 fn laid_in(slope: Slope, side: i64) -> [i32; 9] {
-    let (normal, level, reach) = slope;
+    let (normal, height, reach) = slope;
     let apex = slope_looks(slope, side).1;
     let [a, b, c] = normal;
     let [x, y, z] = plus(apex, START);
-    [a, b, c, dot(normal, apex) - level, x, y, z, 0, reach].map(|number| number as i32)
+    [a, b, c, dot(normal, apex) - height, x, y, z, 0, reach].map(|number| number as i32)
 }
 
 /// Any solid at all, told by what it answers at each new voxel in turn.

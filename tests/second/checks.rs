@@ -13,7 +13,7 @@ pub fn all() {
     sessions();
     a_line_cut_at_the_last_byte_read();
     sum_above_reach();
-    slope_stacks();
+    stacks();
     reads();
     images_256_and_257();
     writes();
@@ -77,9 +77,9 @@ pub fn sum_above_reach() {
 }
 
 #[cfg_attr(test, test)]
-pub fn slope_stacks() {
-    for case in SLOPE_STACKS {
-        let (sizes, bytes) = slope_stack(case.side, case.slope);
+pub fn stacks() {
+    for case in STACKS {
+        let (sizes, bytes) = case.stack();
         let answer = pick(&Stack { sizes, bytes: &bytes }, case.start, 0, case.reach);
         assert_eq!(crate::session::told(answer), format!("{}\n", case.told));
     }

@@ -1,6 +1,7 @@
-//! The second program: document 01 once more, in plain Rust, from its words alone.
-//! It shares no code and no table with the library, takes wide numbers and does no
-//! more than the page says, so that a difference between the two is worth a look.
+//! The second program: document 01, and the requests of document 02 that have landed, once
+//! more, in plain Rust, from their words alone. It shares no code and no table with the
+//! library, takes wide numbers and does no more than the pages say, so that a difference
+//! between the two is worth a look.
 
 pub mod checks;
 pub mod display;

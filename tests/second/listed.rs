@@ -1,23 +1,26 @@
-//! The cases that document 01 lists, its readings and those of docs/LIMITS.md, with every
-//! expected value written out. The unit checks hold the second program to them, and
-//! the comparison holds the library to them.
+//! The cases that document 01 lists, those of document 02's landed requests, their readings and
+//! the lines of docs/LIMITS.md, with every expected value written out. The unit checks hold the
+//! second program to them, and the comparison holds the library to them.
 
 use crate::solid::Sizes;
 
 /// A line of a wedge session and what is printed for it.
 pub const LINES: &[(&str, &str)] = &[
-    // W1 to W8.
+    // W1 to W8, W6 as 2026-01 changes it.
     ("1 2 5 808 100 100 100 0 8", "N 1 2 5 5 116"),
     ("1 2 5 801 100 100 100 0 8", "N 1 2 5 5 144"),
     ("1 2 5 808 100 100 100 0 7", "R 9 101 101 101 4 92"),
     ("1 1 1 303 100 100 100 0 3", "N 1 1 1 0 23"),
     ("1 2 5 808 1 1 1 0 8", "R 6 2 2 2 0 2"),
-    ("0 1 1 202 100 100 100 0 8", "R 7 100 101 101 0 6"),
+    ("0 1 1 202 100 100 100 0 8", "N 0 1 1 0 20"),
     ("1 1 1 3 0 0 0 0 3", "R 8 -1 3 1 0 6"),
     ("-1 2 5 608 100 100 100 1 8", "N -1 2 5 5 116"),
-    // Reach 2 and 257 give 1; 3 and 256 pass. Frame 8 gives 2. The apex outside gives 4.
-    ("1 1 1 303 100 100 100 0 2", "R 1 0 0 0 0 0"),
+    // Reach 0 and 257 give 1; 1, 2 and 256 pass. Frame 8 gives 2. The apex outside gives 4.
+    ("1 1 1 303 100 100 100 0 0", "R 1 0 0 0 0 0"),
+    ("1 1 1 303 100 100 100 0 -1", "R 1 0 0 0 0 0"),
     ("1 1 1 303 100 100 100 0 257", "R 1 0 0 0 0 0"),
+    ("0 0 1 101 100 100 100 0 1", "N 0 0 1 0 7"),
+    ("1 1 1 303 100 100 100 0 2", "R 10 101 101 101 0 17"),
     ("1 1 1 1536 511 511 511 0 3", "N 1 1 1 0 23"),
     ("1 1 1 1536 511 511 511 0 256", "N 1 1 1 0 59"),
     ("1 1 1 303 100 100 100 8 8", "R 2 0 0 0 0 0"),
@@ -28,8 +31,8 @@ pub const LINES: &[(&str, &str)] = &[
     ("1 1 1 303 2147483647 5 5 0 8", "R 4 2147483647 5 5 0 0"),
     ("1 1 1 303 5 -2147483648 5 7 8", "R 4 5 -2147483648 5 0 0"),
     // The order of 1, 2, 3 and 4; the ends of a wedge's numbers.
-    ("1001 1 1 303 -1 5 5 8 2", "R 1 0 0 0 0 0"),
-    ("1001 1 1 303 -1 5 5 8 3", "R 2 0 0 0 0 0"),
+    ("1001 1 1 303 -1 5 5 8 0", "R 1 0 0 0 0 0"),
+    ("1001 1 1 303 -1 5 5 8 1", "R 2 0 0 0 0 0"),
     ("1001 1 1 303 -1 5 5 7 3", "R 3 0 0 0 0 0"),
     ("1000 1 1 303 -1 5 5 7 3", "R 4 -1 5 5 0 0"),
     ("1 -1001 1 303 5 5 5 0 3", "R 3 0 0 0 0 0"),
@@ -42,11 +45,33 @@ pub const LINES: &[(&str, &str)] = &[
     ("2 3 9 1413 100 100 100 0 16", "N 2 3 9 7 178"),
     // Asking fewer pairs once an opposite has fallen shows here.
     ("5 2 1 808 100 100 100 0 8", "N 5 2 1 4 95"),
-    // The bound 2 + K(6w - 9) is reached.
+    // The sharp bound on looks is reached: 2 + K(6w - 9) with no level axis, 2 + K(2w + 2) with
+    // one. (With two it is 2 + 5K: reach 1 above.)
     ("1 1 1 301 100 100 100 0 3", "N 1 1 1 0 29"),
+    ("0 1 1 201 100 100 100 0 2", "N 0 1 1 0 14"),
+    // One level axis. 10 is by the normal with its zero.
+    ("0 1 1 202 100 100 100 0 2", "N 0 1 1 0 12"),
+    ("0 1 1 202 100 100 100 0 1", "R 10 101 101 101 0 8"),
+    ("0 2 5 707 100 100 100 0 7", "N 0 2 5 3 35"),
+    ("0 2 5 707 100 100 100 0 6", "R 10 101 101 101 3 35"),
+    ("5 0 3 808 100 100 100 0 8", "N 5 0 3 3 35"),
+    ("-3 0 5 202 100 100 100 1 8", "N -3 0 5 3 46"),
+    ("-3 0 5 202 100 100 100 3 8", "N -3 0 5 3 46"),
+    ("2 4 0 601 100 100 100 0 3", "N 1 2 0 1 25"),
+    // No step is allowed where the reach is below the number of remaining axes.
+    ("0 1 2 303 100 100 100 0 1", "R 9 101 101 101 0 8"),
+    ("1 2 5 808 100 100 100 0 1", "R 9 101 101 101 0 11"),
+    // 7: axis 1's opposite falls; all three are level.
+    ("0 -1 2 101 100 100 100 0 8", "R 7 101 100 101 0 15"),
+    ("1 1 1 301 100 100 100 0 1", "R 7 100 101 101 0 8"),
+    // 8 at minus a level axis's vector, at its opposite, and there before the next axis is asked.
+    ("0 1 1 202 0 100 100 0 8", "R 8 -1 101 101 0 3"),
+    ("0 1 1 202 1020 100 100 0 8", "R 8 1025 101 101 0 8"),
+    ("0 1 1 101 1020 0 100 0 8", "R 8 1025 1 101 0 8"),
     // Limits: a slope above the reach may be accepted with another normal.
     ("5 6 7 1801 100 100 100 0 8", "N 1 1 1 0 35"),
     ("5 6 7 9216 511 511 511 0 18", "N 5 6 7 7 208"),
+    ("1 1 5 705 100 100 100 0 1", "N 0 0 1 0 7"),
     // Limits: the reach and the box decide "edge", in the middle of the box too.
     ("1 1 2 2048 511 511 511 0 4", "N 1 1 2 1 37"),
     ("1 1 2 2048 511 511 511 0 128", "N 1 1 2 1 87"),
@@ -54,10 +79,14 @@ pub const LINES: &[(&str, &str)] = &[
     ("3 5 7 7680 511 511 511 0 15", "N 3 5 7 6 155"),
     ("3 5 7 7680 511 511 511 0 128", "R 8 1024 384 384 6 219"),
     ("3 5 7 150 11 9 9 0 15", "R 8 -4 26 10 0 12"),
+    ("0 0 1 512 511 511 511 0 256", "N 0 0 1 0 39"),
+    ("0 1 2 1536 511 511 511 0 128", "N 0 1 2 1 45"),
+    ("0 1 2 1536 511 511 511 0 256", "R 8 512 1024 256 1 49"),
+    ("0 0 1 101 3 100 100 0 8", "R 8 -4 101 101 0 5"),
     // Limits: the most looks of a wedge that a search has found.
     ("11 754 698 670469 575 703 191 0 64", "R 9 576 704 192 61 2072"),
     // What the line's form allows and refuses.
-    ("-0 0000000001 1 202 100 100 100 0 8", "R 7 100 101 101 0 6"),
+    ("-0 0000000001 1 202 100 100 100 0 8", "N 0 1 1 0 20"),
     ("1 2 5 808 100 100 100 0 00000000008", "B"),
     ("1 2 5 808 100 100 100 0 +8", "B"),
     ("1 2 5 808 100 100 100 0", "B"),
@@ -81,6 +110,10 @@ pub const TRIANGLES: &[(&str, [[i64; 3]; 3])] = &[
     ("1 2 5 801 100 100 100 0 8", [[1, 0, 0], [-1, 1, 0], [-2, -1, 1]]),
     ("-1 2 5 608 100 100 100 1 8", [[-1, 0, 0], [1, 1, 0], [2, -1, 1]]),
     ("1 1 1 303 100 100 100 0 3", [[1, 0, 0], [0, 1, 0], [0, 0, 1]]),
+    // A level axis's vector stays the unit vector, with the frame's sign.
+    ("5 0 3 808 100 100 100 0 8", [[2, 0, -3], [0, 1, 0], [-1, 0, 2]]),
+    ("-3 0 5 202 100 100 100 1 8", [[-2, 0, -1], [0, 1, 0], [3, 0, 2]]),
+    ("-3 0 5 202 100 100 100 3 8", [[-2, 0, -1], [0, -1, 0], [3, 0, 2]]),
 ];
 
 /// A whole session and its output.
@@ -94,47 +127,71 @@ pub const SESSIONS: &[(&[u8], &[u8])] = &[
     (b"1 1 1 303 100 100 100 0 3\n\n1 1 1 3 0 0 0 0 3", b"N 1 1 1 0 23\nB\nR 8 -1 3 1 0 6\n"),
 ];
 
-/// A stack that holds a slope, what is asked of it, and the answer as a session tells it.
-pub struct SlopeStack {
+/// What a listed stack has filled.
+pub enum Filled {
+    /// Exactly where ax + by + cz < h.
+    Slope([i64; 4]),
+    /// These places only.
+    Only(&'static [[i64; 3]]),
+}
+
+/// A stack, what is asked of it in frame 0, and the answer as a session tells it.
+pub struct StackCase {
     pub side: i64,
-    /// a b c h
-    pub slope: [i64; 4],
+    pub filled: Filled,
     pub start: [i64; 3],
     pub reach: i64,
     pub told: &'static str,
 }
 
-/// Limits: a stack offers at most 64.
-pub const SLOPE_STACKS: &[SlopeStack] = &[
-    SlopeStack {
-        side: 256,
-        slope: [1, 1, 1, 384],
-        start: [127, 127, 127],
-        reach: 64,
-        told: "N 1 1 1 0 47",
-    },
-    SlopeStack {
-        side: 256,
-        slope: [1, 1, 1, 384],
-        start: [127, 127, 127],
-        reach: 65,
-        told: "R 8 0 256 128 0 12",
-    },
+const fn slope_case(slope: [i64; 4], reach: i64, told: &'static str) -> StackCase {
+    StackCase { side: 256, filled: Filled::Slope(slope), start: [127; 3], reach, told }
+}
+
+const fn few_case(only: &'static [[i64; 3]], reach: i64, told: &'static str) -> StackCase {
+    StackCase { side: 8, filled: Filled::Only(only), start: [3; 3], reach, told }
+}
+
+pub const STACKS: &[StackCase] = &[
+    // Limits: a stack offers at most 64.
+    slope_case([1, 1, 1, 384], 64, "N 1 1 1 0 47"),
+    slope_case([1, 1, 1, 384], 65, "R 8 0 256 128 0 12"),
+    slope_case([0, 0, 1, 128], 64, "N 0 0 1 0 31"),
+    slope_case([0, 0, 1, 128], 65, "R 8 256 128 128 0 17"),
+    // p alone filled; beside it the voxel opposite on axis 0; two on the other axes instead.
+    few_case(&[[3, 3, 3]], 1, "R 7 3 4 4 0 8"),
+    few_case(&[[3, 3, 3]], 2, "R 7 3 4 4 0 14"),
+    few_case(&[[3, 3, 3]], 3, "R 8 8 4 4 0 7"),
+    few_case(&[[3, 3, 3], [5, 4, 4]], 2, "R 7 3 4 4 0 5"),
+    few_case(&[[3, 3, 3], [4, 4, 3], [4, 3, 4]], 2, "N 0 1 1 0 12"),
 ];
 
-/// The stack of a slope: filled exactly where ax + by + cz < h.
-pub fn slope_stack(side: i64, [a, b, c, h]: [i64; 4]) -> (Sizes, Vec<u8>) {
+impl StackCase {
+    pub fn stack(&self) -> (Sizes, Vec<u8>) {
+        match self.filled {
+            Filled::Slope(slope) => slope_stack(self.side, slope),
+            Filled::Only(places) => stack_where(self.side, |point| places.contains(&point)),
+        }
+    }
+}
+
+fn stack_where(side: i64, filled: impl Fn([i64; 3]) -> bool) -> (Sizes, Vec<u8>) {
     let sizes = Sizes { width: side, height: side, depth: side };
     let mut bytes = vec![0; sizes.stack_bytes()];
     for z in 0..side {
         for y in 0..side {
-            for x in (0..side).filter(|x| a * x + b * y + c * z < h) {
+            for x in (0..side).filter(|&x| filled([x, y, z])) {
                 let (byte, bit) = sizes.bit_place([x, y, z]);
                 bytes[byte] |= bit;
             }
         }
     }
     (sizes, bytes)
+}
+
+/// The stack of a slope: filled exactly where ax + by + cz < h.
+pub fn slope_stack(side: i64, [a, b, c, h]: [i64; 4]) -> (Sizes, Vec<u8>) {
+    stack_where(side, |[x, y, z]| a * x + b * y + c * z < h)
 }
 
 /// "Filled only" places about q = (32,32,32) of a stack 64 a side: two steps, then refusal 10.

@@ -1,4 +1,4 @@
-//! The probing walk, in document 01's order.
+//! The probing walk, in document 01's order, and document 02's 2026-01 (level faces).
 
 use crate::point::{cross, dot, lay, minus, plus, signs, times, Point, ORIGIN, UNITS};
 use crate::solid::Solid;
@@ -53,7 +53,7 @@ struct Walk<'a, S> {
 
 pub fn pick<S: Solid>(solid: &S, start: Point, frame: i64, reach: i64) -> Pick {
     let at_once = |number, place| Err(Refusal { number, place, steps: 0, looks: 0 });
-    if !(3..=256).contains(&reach) {
+    if !(1..=256).contains(&reach) {
         return at_once(1, ORIGIN);
     }
     if !(0..=7).contains(&frame) {
@@ -75,9 +75,9 @@ pub fn pick<S: Solid>(solid: &S, start: Point, frame: i64, reach: i64) -> Pick {
 
 impl<S: Solid> Walk<'_, S> {
     fn answer(mut self, start: Point) -> Pick {
-        let end = self.begin(start).and_then(|()| self.rounds());
+        let end = self.end(start);
         let Walk { signs, apex, steps, looks, .. } = self;
-        match end.and_then(|triangle| self.normal(triangle).map(|n| (n, triangle))) {
+        match end {
             Ok((normal, triangle)) => Ok(Record {
                 normal: lay(signs, normal),
                 vectors: triangle.map(|m| lay(signs, m)),
@@ -89,7 +89,15 @@ impl<S: Solid> Walk<'_, S> {
         }
     }
 
-    /// Items 1 and 2: p, q and the axes.
+    /// The normal and the triangle, in the frame.
+    fn end(&mut self, start: Point) -> Result<(Point, Triangle), Stop> {
+        self.begin(start)?;
+        let remaining = self.axes()?;
+        let triangle = self.rounds(&remaining)?;
+        Ok((self.normal(triangle, &remaining)?, triangle))
+    }
+
+    /// Item 1: p, then q.
     fn begin(&mut self, start: Point) -> Result<(), Stop> {
         if !self.look(start)? {
             return Err(Stop { number: 5, place: start });
@@ -97,24 +105,52 @@ impl<S: Solid> Walk<'_, S> {
         if self.look(self.apex)? {
             return Err(Stop { number: 6, place: self.apex });
         }
-        for unit in UNITS {
-            let down = times(-1, unit);
-            if !self.falls(down)? {
-                return Err(Stop { number: 7, place: self.laid_at_apex(1, down) });
-            }
-        }
         Ok(())
     }
 
-    /// Items 3 to 6: rounds until no pair falls.
-    fn rounds(&mut self) -> Result<Triangle, Stop> {
+    /// Item 2: the axes that are not level. "7 now means that an axis's opposite falls, or (place
+    /// as for axis 0) that all three are level."
+    fn axes(&mut self) -> Result<Vec<usize>, Stop> {
+        let mut remaining = Vec::new();
+        for axis in 0..3 {
+            if !self.level(axis)? {
+                remaining.push(axis);
+            }
+        }
+        if remaining.is_empty() {
+            return Err(self.beside_apex(0));
+        }
+        Ok(remaining)
+    }
+
+    /// "When minus an axis vector doesn't fall, its opposite is asked too. If neither falls the
+    /// axis is level."
+    fn level(&mut self, axis: usize) -> Result<bool, Stop> {
+        if self.falls(times(-1, UNITS[axis]))? {
+            return Ok(false);
+        }
+        if self.falls(UNITS[axis])? {
+            return Err(self.beside_apex(axis));
+        }
+        Ok(true)
+    }
+
+    /// Refusal 7 with q less the axis's unit vector, laid in.
+    fn beside_apex(&self, axis: usize) -> Stop {
+        Stop { number: 7, place: self.laid_at_apex(1, times(-1, UNITS[axis])) }
+    }
+
+    /// Items 3 to 6: rounds until no pair falls. "As many steps allowed as the reach less the
+    /// number of remaining axes (none if that is below zero)."
+    fn rounds(&mut self, remaining: &[usize]) -> Result<Triangle, Stop> {
+        let allowed = (self.reach - remaining.len() as i64).max(0);
         let mut triangle = UNITS;
         loop {
-            let falling = self.round(&triangle)?;
+            let falling = self.round(&triangle, remaining)?;
             if falling.is_empty() {
                 return Ok(triangle);
             }
-            if i64::from(self.steps) == self.reach - 3 {
+            if i64::from(self.steps) == allowed {
                 return Err(Stop { number: 9, place: self.apex });
             }
             let (k, l) = choice(&triangle, &falling);
@@ -123,20 +159,26 @@ impl<S: Solid> Walk<'_, S> {
         }
     }
 
-    /// The pairs that fall, all six asked.
-    fn round(&mut self, triangle: &Triangle) -> Result<Vec<(usize, usize)>, Stop> {
+    /// The pairs that fall, all asked but those of a level axis, which "takes no part".
+    fn round(
+        &mut self,
+        triangle: &Triangle,
+        remaining: &[usize],
+    ) -> Result<Vec<(usize, usize)>, Stop> {
         let mut falling = Vec::new();
         for (k, l) in PAIRS {
-            if self.falls(minus(triangle[l], triangle[k]))? {
+            let takes_part = remaining.contains(&k) && remaining.contains(&l);
+            if takes_part && self.falls(minus(triangle[l], triangle[k]))? {
                 falling.push((k, l));
             }
         }
         Ok(falling)
     }
 
-    /// The normal in the frame, unless its sizes add to more than the reach.
-    fn normal(&self, [m0, m1, m2]: Triangle) -> Result<Point, Stop> {
-        let n = plus(plus(cross(m0, m1), cross(m1, m2)), cross(m2, m0));
+    /// The normal, a level axis's component 0, unless its sizes add to more than the reach.
+    fn normal(&self, [m0, m1, m2]: Triangle, remaining: &[usize]) -> Result<Point, Stop> {
+        let sum = plus(plus(cross(m0, m1), cross(m1, m2)), cross(m2, m0));
+        let n = [0, 1, 2].map(|axis| if remaining.contains(&axis) { sum[axis] } else { 0 });
         if n.iter().map(|part| part.abs()).sum::<i64>() > self.reach {
             return Err(Stop { number: 10, place: self.apex });
         }

@@ -20,12 +20,12 @@ fn divisor(a: i64, b: i64) -> i64 {
     }
 }
 
-/// All positive normals without a common divisor whose parts add to at most w.
+/// All normals without a common divisor whose parts, from 0 on, add to at most w.
 pub fn normals(w: i64) -> Vec<Point> {
     let mut list = Vec::new();
-    for a in 1..=w - 2 {
-        for b in 1..=w - a - 1 {
-            for c in (1..=w - a - b).filter(|&c| divisor(divisor(a, b), c) == 1) {
+    for a in 0..=w {
+        for b in 0..=w - a {
+            for c in (0..=w - a - b).filter(|&c| divisor(divisor(a, b), c) == 1) {
                 list.push([a, b, c]);
             }
         }
@@ -42,21 +42,11 @@ pub fn near_walls(chance: &mut Chance) -> Point {
 
 pub fn reach(chance: &mut Chance) -> i64 {
     match chance.below(20) {
-        0 => chance.one_of(&[
-            2,
-            257,
-            0,
-            -1,
-            1,
-            258,
-            1 << 20,
-            i64::from(i32::MIN),
-            i64::from(i32::MAX),
-        ]),
+        0 => chance.one_of(&[0, -1, 257, 258, 1 << 20, i64::from(i32::MIN), i64::from(i32::MAX)]),
         1..=3 => chance.one_of(&[4, 8, 16, 32, 64, 128, 256]) - chance.between(0, 1),
-        4..=5 => chance.one_of(&[3, 5, 9, 17, 33, 65, 129]),
-        6..=14 => chance.between(3, 24),
-        _ => chance.between(3, 256),
+        4..=5 => chance.one_of(&[1, 2, 3, 5, 9, 17, 33, 65, 129]),
+        6..=14 => chance.between(1, 24),
+        _ => chance.between(1, 256),
     }
 }
 
@@ -67,28 +57,52 @@ pub fn frame(chance: &mut Chance) -> i64 {
     chance.between(0, 7)
 }
 
-/// Sizes of a normal: their sum about the reach, small, or anything; then zeros and divisors.
-pub fn sizes_of_normal(chance: &mut Chance, reach: i64) -> Point {
-    let reach = reach.clamp(3, 256);
-    let w = match chance.below(8) {
-        0 => chance.between(3, 12),
-        1 => chance.between(3, 3 * reach),
-        2 => chance.between(3, 900),
-        _ => chance.between(3, reach),
-    };
-    let a = chance.between(1, w - 2);
-    let b = chance.between(1, w - a - 1);
-    let mut sizes = [a, b, w - a - b];
-    sizes.rotate_left(chance.below(3) as usize);
-    if chance.percent(4) {
-        sizes[chance.below(3) as usize] = 0;
+/// So many sizes of at least 1 that add to w, then zeros.
+fn sizes(chance: &mut Chance, remaining: i64, w: i64) -> Point {
+    match remaining {
+        0 => [0, 0, 0],
+        1 => [w, 0, 0],
+        2 => {
+            let a = chance.between(1, w - 1);
+            [a, w - a, 0]
+        }
+        _ => {
+            let a = chance.between(1, w - 2);
+            let b = chance.between(1, w - a - 1);
+            [a, b, w - a - b]
+        }
     }
-    let factor = if chance.percent(15) { chance.between(2, 9) } else { 1 };
-    sizes.map(|part| factor * part)
 }
 
-/// A level of q above the plane: 0 to w - 1 if p is to be filled and q empty.
-pub fn level(chance: &mut Chance, w: i64) -> i64 {
+/// A normal in the frame, the sum of its sizes about the reach, small, or anything. Some have
+/// level axes, some a part against the frame, some a common divisor. The parts' sum is not below 0.
+pub fn normal_in_frame(chance: &mut Chance, reach: i64) -> Point {
+    let remaining = match chance.below(100) {
+        0 => 0,
+        1..=11 => 1,
+        12..=33 => 2,
+        _ => 3,
+    };
+    let least = remaining.max(1);
+    let reach = reach.clamp(least, 256);
+    let w = match chance.below(8) {
+        0 => chance.between(least, 12),
+        1 => chance.between(least, 3 * reach),
+        2 => chance.between(least, 900),
+        _ => chance.between(least, reach),
+    };
+    let mut parts = sizes(chance, remaining, w);
+    parts.rotate_left(chance.below(3) as usize);
+    let axis = chance.below(3) as usize;
+    if chance.percent(8) && 2 * parts[axis] < w {
+        parts[axis] *= -1;
+    }
+    let factor = if chance.percent(15) { chance.between(2, 9) } else { 1 };
+    parts.map(|part| factor * part)
+}
+
+/// A height of q above the plane: 0 to w - 1 if p is to be filled and q empty.
+pub fn height(chance: &mut Chance, w: i64) -> i64 {
     match chance.below(20) {
         0 => chance.between(-w - 2, -1),
         1 => w + chance.between(0, 2),
@@ -109,12 +123,12 @@ fn start(chance: &mut Chance) -> Point {
 
 fn slope(chance: &mut Chance) -> Line {
     let reach = reach(chance);
-    let sizes = sizes_of_normal(chance, reach);
+    let parts = normal_in_frame(chance, reach);
     let frame = frame(chance);
     let start = start(chance);
-    let normal = lay(signs(frame & 7), sizes);
-    let level = level(chance, sizes.iter().sum());
-    let h = dot(normal, plus(start, signs(frame & 7))) - level;
+    let normal = lay(signs(frame & 7), parts);
+    let height = height(chance, parts.iter().sum());
+    let h = dot(normal, plus(start, signs(frame & 7))) - height;
     let seen_from = if chance.percent(5) { chance.between(0, 7) } else { frame };
     line_of(normal, h, start, seen_from, reach)
 }

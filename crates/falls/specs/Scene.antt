@@ -9,5 +9,4 @@ pub record Ready (v : Scene) (bytes : List ℕ) : Type 0 where
   pub permitted : Permitted (v .solid) bytes
   pub placed : Inside (v .solid) (v .apex)
   pub signed : Signs (v .signs)
-  pub reach-low : 3 ≤ v .reach
   pub reach-high : v .reach ≤ 256

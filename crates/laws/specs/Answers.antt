@@ -1,34 +1,49 @@
--- The pick's answer: what was told of the question holds of its two cases.
-use mathlib.Core.Path.{_≡_, sym, ap, ap₂, subst, _∙_}
+-- The pick's answer: what was told of the question holds of its two cases. An accepted record's level axes are those along which its normal's part is 0.
+use mathlib.Core.Path.{_≡_, refl, sym, ap, subst, _∙_}
+use mathlib.Core.Bool.{Bool, true, false}
 use mathlib.Core.List.{List}
-use Prim.Native.Nat.{ℕ, _+_, _*_, _-_, _≤_}
+use Prim.Native.Nat.{ℕ, zero, suc, _+_, _*_, _-_, _≤_, max}
 use native.Mathlib.Nat as NatL
+use native.Mathlib.Omega.{arith}
+use lib.Dec.{T}
 use lib.ListN.{length}
-use lib.IntN.{ℤ, pos, natAbs}
+use lib.IntN.{ℤ, pos, negsuc, natAbs}
+use lib.Signed.{_≤ℤ_}
+use Rattle.integers.specs.Order.{parts}
 use Rattle.rules.specs.declared.Vector.{Vector}
 use Rattle.rules.specs.declared.Look.{Look}
 use Rattle.rules.specs.declared.Solid.{Solid}
+use Rattle.rules.specs.declared.Levels.{Levels}
 use Rattle.rules.specs.declared.Triangle.{Triangle}
-use Rattle.rules.specs.declared.Pair.the-variants.{P01, P02}
 use Rattle.rules.specs.declared.Accepted.{Accepted as AcceptedPick}
 use Rattle.rules.specs.declared.Refused.{Refused as RefusedPick}
 use Rattle.rules.specs.declared.Pick.{Pick}
 use Rattle.rules.specs.declared.Pick.the-variants.{Accepted, Refused}
-use Rattle.rules.specs.Vectors.{_⊕_, _⊖_, scale, dot, lay}
+use Rattle.rules.specs.Vectors.{_⊕_, scale, dot, lay}
 use Rattle.rules.specs.Asked.{Asked, answered, refused}
 use Rattle.rules.specs.Solids.{permitted, look}
-use Rattle.rules.specs.Walk.{Stop, stop, powers, triangle, way, normal, Found, found}
+use Rattle.rules.specs.Walk.{Stop, stop, powers, Axis, axis0, axis1, axis2, unit, triangle, vectorOf, level, remaining, unlessLevel, levelled, normal, Found, found}
 use Rattle.rules.specs.Pick.{pick, answer, pickOf}
-use Rattle.laws.specs.Parts.{Positive}
-use Rattle.laws.specs.Triples.{All, detOf, normal-dot, sides-generate}
+use Rattle.laws.specs.Parts.{NonNegative, part, part-of, parts-by, scale-one}
+use Rattle.laws.specs.Triples.{detOf, crosses, combined, expand}
+use Rattle.laws.specs.Levels.{isZero, levelsOf, levels-of, levels-eq, part-levelled}
+use Rattle.laws.specs.Flat.{Flat, levelled-dot}
+use Rattle.laws.specs.Generators.{Combines, generators, Products, face-generated}
 use Rattle.laws.specs.Tame.{tame-normal}
-use Rattle.laws.specs.Says.{Says}
-use Rattle.laws.specs.Frames.{Signs, lay-lay, lay-dot, lay-scale, lay-difference, lay-sum}
-use Rattle.laws.specs.Picks.{Told, Accepting, Picked, pick-says}
+use Rattle.laws.specs.Says.{Says, Few}
+use Rattle.laws.specs.Frames.{Signs, lay-lay, lay-dot, lay-scale, lay-sum, lay-part-zero}
+use Rattle.laws.specs.Next.{LevelsAnswered}
+use Rattle.laws.specs.Axes.{levels-answered}
+use Rattle.laws.specs.Picks.{Accepting, Picked, ToldOf, pick-says}
 
 -- a triangle laid into the box, or back out of it
 abbrev pub laid : Vector → Triangle → Triangle
 laid s m = triangle (lay s (m .m0)) (lay s (m .m1)) (lay s (m .m2))
+
+pub laid-of : (s : Vector) (m : Triangle) (k : Axis) → vectorOf (laid s m) k ≡ lay s (vectorOf m k)
+laid-of s m axis0 = refl
+laid-of s m axis1 = refl
+laid-of s m axis2 = refl
 
 abbrev pub stepsOf : Pick → ℕ
 stepsOf (Accepted a) = a .steps
@@ -45,79 +60,129 @@ foundOf a = record { normal = a .normal; triangle = a .triangle; apex = a .apex;
 abbrev pub stopOf : RefusedPick → Stop
 stopOf r = stop (r .number) (r .place) (r .steps)
 
-abbrev pub AnswerSays : (Found → Type 0) → (Stop → Type 0) → ℕ → Pick → Type 0
-AnswerSays Q F N (Accepted a) = Q (foundOf a) × (a .looks ≤ N)
-AnswerSays Q F N (Refused r) = F (stopOf r) × (r .looks ≤ N)
+abbrev pub AnswerSays : (Found → ℕ → Type 0) → (Stop → ℕ → Type 0) → Pick → Type 0
+AnswerSays Q F (Accepted a) = Q (foundOf a) (a .looks)
+AnswerSays Q F (Refused r) = F (stopOf r) (r .looks)
 
-pub answer-says : (Q : Found → Type 0) (F : Stop → Type 0) (N : ℕ) (x : Asked Stop Found) → Says Q F N x → AnswerSays Q F N (answer x)
+pub answer-says : (Q : Found → ℕ → Type 0) (F : Stop → ℕ → Type 0) (x : Asked Stop Found) → Says Q F x → AnswerSays Q F (answer x)
 unfolding answer
-answer-says Q F N (answered f t) h = h .of
-answer-says Q F N (refused r t) h = h .of
+answer-says Q F (answered f t) h = h .of
+answer-says Q F (refused r t) h = h .of
 
-answer-looks : (Q : Found → Type 0) (F : Stop → Type 0) (N : ℕ) (x : Pick) → AnswerSays Q F N x → looksOf x ≤ N
-answer-looks Q F N (Accepted a) h = h .1
-answer-looks Q F N (Refused r) h = h .1
+-- ---- of a flat triangle of determinant 1, laid in
+lay-combined : (s : Vector) (m : Triangle) (a b c : ℤ) → lay s (combined m a b c) ≡ combined (laid s m) a b c
+lay-combined s m a b c = lay-sum s (scale a (m .m0) ⊕ scale b (m .m1)) (scale c (m .m2)) ∙ rw (lay-sum s (scale a (m .m0)) (scale b (m .m1)), lay-scale s (m .m0) a, lay-scale s (m .m1) b, lay-scale s (m .m2) c) refl
+
+module _ {s : Vector} (g : Signs s) {v : Levels} {m : Triangle} (k : Flat v m) (d : detOf m ≡ pos 1) where
+  abbrev n : Vector
+  n = lay s (levelled v (normal m))
+
+  pub laid-products : Products v (lay s (levelled v (normal m))) (laid s m)
+  laid-products j = ap (dot n) (laid-of s m j) ∙ lay-dot s _ (lay s (vectorOf m j)) ∙ ap (dot (levelled v (normal m))) (lay-lay s (vectorOf m j) g) ∙ levelled-dot v m k d j
+
+  -- the level vectors and the sides between the other corners generate the plane of the laid-in normal
+  pub laid-generated : (u : Vector) → dot (lay s (levelled v (normal m))) u ≡ pos 0 → Combines (generators v (laid s m)) u
+  laid-generated u e = subst (Combines (generators v (laid s m))) (sym back) (face-generated v n (laid s m) laid-products c (ap (dot n) (sym back) ∙ e))
+    where
+      c : Axis → ℤ
+      c j = dot (vectorOf (crosses m) j) (lay s u)
+
+      back : u ≡ combined (laid s m) (c axis0) (c axis1) (c axis2)
+      back = sym (lay-lay s u g) ∙ ap (lay s) (sym (scale-one (lay s u)) ∙ (rw d at (expand m (lay s u)))) ∙ lay-combined s m (c axis0) (c axis1) (c axis2)
 
 -- ---- what an accepted record holds
+-- a part that is 0, or at least 1
+abbrev PartAs : Bool → ℤ → Type 0
+PartAs true z = z ≡ pos 0
+PartAs false z = pos 1 ≤ℤ z
+
+part-as : (b : Bool) (z : ℤ) → pos 1 ≤ℤ z → PartAs b (unlessLevel b z)
+part-as true z h = refl
+part-as false z h = h
+
+as-zero : (b : Bool) (z : ℤ) → PartAs b z → b ≡ isZero z
+as-zero true z h = rw h refl
+as-zero false (pos zero) h = absurd (omega (arith, parts, h))
+as-zero false (pos (suc k)) h = refl
+as-zero false (negsuc k) h = absurd (h .le)
+
+as-upward : (b : Bool) (z : ℤ) → PartAs b z → pos 0 ≤ℤ z
+as-upward true z h = omega (arith, parts, h)
+as-upward false z h = omega (arith, parts, h)
+
 module _ {look : Vector → Look} {q s : Vector} {R : ℕ} {f : Found} (h : Accepting look q s R f) where
-  accepting-steps : f .steps ≤ R - 3
-  unfolding found
-  accepting-steps = rw (ap (λ (f : Found). f .steps) (h .is)) (h .end .fewSteps)
+  abbrev m : Triangle
+  m = h .at .0
 
   accepting-triangle : f .triangle ≡ laid s (h .at .0)
   unfolding found
   accepting-triangle = ap (λ (f : Found). f .triangle) (h .is)
 
-  accepting-normal : f .normal ≡ lay s (normal (h .at .0))
+  accepting-normal : f .normal ≡ lay s (levelled (h .level) (normal (h .at .0)))
   unfolding found
   accepting-normal = ap (λ (f : Found). f .normal) (h .is)
 
   pub accepting-determinant : Signs s → detOf (laid s (f .triangle)) ≡ pos 1
-  accepting-determinant g = rw accepting-triangle (rw (lay-lay s (h .at .0 .m0) g, lay-lay s (h .at .0 .m1) g, lay-lay s (h .at .0 .m2) g) (h .end .tame .unimodular))
+  accepting-determinant g = rw accepting-triangle (rw (lay-lay s (m .m0) g, lay-lay s (m .m1) g, lay-lay s (m .m2) g) (h .end .tame .unimodular))
 
-  product : Signs s → (a : Vector) → dot (normal (h .at .0)) a ≡ detOf (h .at .0) → dot (lay s (normal (h .at .0))) (lay s a) ≡ pos 1
-  product g a e = lay-dot s _ (lay s a) ∙ ap (dot (normal (h .at .0))) (lay-lay s a g) ∙ e ∙ h .end .tame .unimodular
+  part-is : Signs s → (k : Axis) → PartAs (level (h .level) k) (part k (lay s (f .normal)))
+  part-is g k =
+      subst (PartAs (level (h .level) k)) (sym (ap (part k) (ap (lay s) accepting-normal ∙ lay-lay s _ g) ∙ part-levelled (h .level) (normal m) k))
+      (part-as (level (h .level) k) (part k (normal m)) (part-of (tame-normal m (h .end .tame)) k))
 
-  pub accepting-products : Signs s → All (λ m. dot (f .normal) m ≡ pos 1) (f .triangle)
-  accepting-products g =
-      let n = normal-dot (h .at .0) in
-      rw (accepting-triangle, accepting-normal) (record { of0 = product g _ (n .of0); of1 = product g _ (n .of1); of2 = product g _ (n .of2) })
+  -- no part against the frame
+  pub accepting-signs : Signs s → NonNegative (lay s (f .normal))
+  accepting-signs g = parts-by (λ z. pos 0 ≤ℤ z) (lay s (f .normal)) (λ k. as-upward (level (h .level) k) _ (part-is g k))
 
-  pub accepting-signs : Signs s → Positive (lay s (f .normal))
-  accepting-signs g = rw (accepting-normal, lay-lay s (normal (h .at .0)) g) (tame-normal (h .at .0) (h .end .tame))
+  pub accepting-levels : Signs s → h .level ≡ levelsOf (f .normal)
+  accepting-levels g = levels-eq (λ k. as-zero (level (h .level) k) _ (part-is g k) ∙ lay-part-zero s (f .normal) g k ∙ sym (levels-of (f .normal) k))
 
-  -- laid in, the sides generate the plane of the laid-in normal
-  pub accepting-sides : Signs s → (v : Vector) → dot (f .normal) v ≡ pos 0 → (c1 : ℤ) × (c2 : ℤ) × (v ≡ scale c1 (way (f .triangle) P01) ⊕ scale c2 (way (f .triangle) P02))
-  accepting-sides g v e = rw accepting-triangle (c .0, c .1, sym (lay-lay s v g) ∙ ap (lay s) (c .2) ∙ lay-sum s _ _ ∙ ap₂ _⊕_ (side (c .0) (m .m1)) (side (c .1) (m .m2)))
-    where
-      m : Triangle
-      m = h .at .0
+  pub accepting-steps : Signs s → f .steps ≤ R - length (remaining (levelsOf (f .normal)))
+  unfolding found
+  accepting-steps g = rw (← accepting-levels g, ap (λ (f : Found). f .steps) (h .is)) (h .end .fewSteps .0)
 
-      c : (c1 : ℤ) × (c2 : ℤ) × (lay s v ≡ scale c1 (way m P01) ⊕ scale c2 (way m P02))
-      c = sides-generate m (lay s v) (h .end .tame .unimodular) (sym (lay-dot s (normal m) v) ∙ (rw accepting-normal at e))
+  pub accepting-axes : Signs s → LevelsAnswered look q s (powers R) (levelsOf (f .normal))
+  accepting-axes g = subst (LevelsAnswered look q s (powers R)) (accepting-levels g) (levels-answered look q s (powers R) (h .asked))
 
-      side : (k : ℤ) (a : Vector) → lay s (scale k (a ⊖ m .m0)) ≡ scale k (lay s a ⊖ lay s (m .m0))
-      side k a = lay-scale s (a ⊖ m .m0) k ∙ ap (scale k) (lay-difference s a (m .m0))
+  -- a level axis's vector stays the unit vector
+  pub accepting-stays : Signs s → (k : Axis) → T (level (levelsOf (f .normal)) k) → vectorOf (f .triangle) k ≡ lay s (unit k)
+  accepting-stays g k e = ap (λ (t : Triangle). vectorOf t k) accepting-triangle ∙ laid-of s m k ∙ ap (lay s) (h .end .flat k (subst (λ (v : Levels). T (level v k)) (sym (accepting-levels g)) e) k .own refl)
+
+  pub accepting-products : Signs s → Products (levelsOf (f .normal)) (f .normal) (f .triangle)
+  accepting-products g = rw (← accepting-levels g) (rw (accepting-triangle, accepting-normal) (laid-products g (h .end .flat) (h .end .tame .unimodular)))
+
+  pub accepting-generated : Signs s → (v : Vector) → dot (f .normal) v ≡ pos 0 → Combines (generators (levelsOf (f .normal)) (f .triangle)) v
+  accepting-generated g v e = subst (λ l. Combines (generators l (f .triangle)) v) (accepting-levels g) (rw accepting-triangle (laid-generated g (h .end .flat) (h .end .tame .unimodular) v (rw accepting-normal at e)))
 
 -- ---- and of a solid's pick
 module _ (solid : Solid) (bytes : List ℕ) (p : Vector) (frame reach : ℤ) where
-  pub told : (N : ℕ) → (3 ≤ natAbs reach → natAbs reach ≤ 256 → 2 + length (powers (natAbs reach)) * (6 * natAbs reach - 9) ≤ N)
-      → AnswerSays (Picked (permitted solid bytes) (look solid bytes) p frame reach) (Told (look solid bytes) (natAbs reach - 3)) N (pickOf solid bytes p frame reach)
+  abbrev PickedHere : Found → Type 0
+  PickedHere = Picked (permitted solid bytes) (look solid bytes) p frame reach
+
+  abbrev ToldHere : Stop → Type 0
+  ToldHere = ToldOf (permitted solid bytes) (look solid bytes) p frame reach
+
+  pub told : (N : ℕ) → (natAbs reach ≤ 256 → 2 + length (powers (natAbs reach)) * (6 * max (natAbs reach) 3 - 9) ≤ N) → AnswerSays (Few N PickedHere) (Few N ToldHere) (pickOf solid bytes p frame reach)
   unfolding pickOf
-  told N h = answer-says _ _ N (pick (permitted solid bytes) (look solid bytes) p frame reach) (pick-says (permitted solid bytes) (look solid bytes) p frame reach N h)
+  told N h = answer-says _ _ (pick (permitted solid bytes) (look solid bytes) p frame reach) (pick-says (permitted solid bytes) (look solid bytes) p frame reach N h)
 
-  pub told-accepted : (a : AcceptedPick) → pickOf solid bytes p frame reach ≡ Accepted a → Picked (permitted solid bytes) (look solid bytes) p frame reach (foundOf a)
-  told-accepted a e = subst (AnswerSays _ _ _) e (told _ (λ _ _. NatL.le-refl _)) .0
+  pub told-accepted : (a : AcceptedPick) → pickOf solid bytes p frame reach ≡ Accepted a → PickedHere (foundOf a)
+  told-accepted a e = subst (AnswerSays _ _) e (told _ (λ _. NatL.le-refl _)) .holds
 
-  pub told-refused : (r : RefusedPick) → pickOf solid bytes p frame reach ≡ Refused r → Told (look solid bytes) (natAbs reach - 3) (stopOf r)
-  told-refused r e = subst (AnswerSays _ _ _) e (told _ (λ _ _. NatL.le-refl _)) .0
+  pub told-refused : (r : RefusedPick) → pickOf solid bytes p frame reach ≡ Refused r → ToldHere (stopOf r)
+  told-refused r e = subst (AnswerSays _ _) e (told _ (λ _. NatL.le-refl _)) .holds
 
-  pub told-steps : stepsOf (pickOf solid bytes p frame reach) ≤ natAbs reach - 3
-  told-steps = go _ (pickOf solid bytes p frame reach) (told _ (λ _ _. NatL.le-refl _))
+  pub told-steps : stepsOf (pickOf solid bytes p frame reach) ≤ natAbs reach - 2
+  unfolding found
+  told-steps = go _ (pickOf solid bytes p frame reach) (told _ (λ _. NatL.le-refl _))
     where
-      go : (N : ℕ) (x : Pick) → AnswerSays (Picked (permitted solid bytes) (look solid bytes) p frame reach) (Told (look solid bytes) (natAbs reach - 3)) N x → stepsOf x ≤ natAbs reach - 3
-      go N (Accepted a) h = accepting-steps (h .0 .accepting)
-      go N (Refused r) h = h .0 .fewSteps
+      go : (N : ℕ) (x : Pick) → AnswerSays (Few N PickedHere) (Few N ToldHere) x → stepsOf x ≤ natAbs reach - 2
+      go N (Accepted a) h = let k = h .holds .accepting in rw (ap (λ (f : Found). f .steps) (k .is)) (k .end .fewSteps .1 .most)
+      go N (Refused r) h = h .holds .fewSteps .most
 
-  pub told-looks : (N : ℕ) → (3 ≤ natAbs reach → natAbs reach ≤ 256 → 2 + length (powers (natAbs reach)) * (6 * natAbs reach - 9) ≤ N) → looksOf (pickOf solid bytes p frame reach) ≤ N
-  told-looks N few = answer-looks _ _ N (pickOf solid bytes p frame reach) (told N few)
+  pub told-looks : (N : ℕ) → (natAbs reach ≤ 256 → 2 + length (powers (natAbs reach)) * (6 * max (natAbs reach) 3 - 9) ≤ N) → looksOf (pickOf solid bytes p frame reach) ≤ N
+  told-looks N h = go (pickOf solid bytes p frame reach) (told N h)
+    where
+      go : (x : Pick) → AnswerSays (Few N PickedHere) (Few N ToldHere) x → looksOf x ≤ N
+      go (Accepted a) h = h .few
+      go (Refused r) h = h .few

@@ -16,7 +16,7 @@ use Rattle.rules.specs.declared.Solid.the-variants.{Wedge as IsWedge, Stack as 
 use Rattle.rules.specs.declared.Look.the-variants.{Outside}
 use Rattle.rules.specs.declared.Triangle.{Triangle}
 use Rattle.rules.specs.declared.Pair.{Pair}
-use Rattle.rules.specs.declared.Choice.{Choice}
+use Rattle.rules.specs.declared.Choice.the-variants.{Chosen}
 use Rattle.rules.specs.Vectors.{vector}
 use Rattle.rules.specs.Asked.{answered}
 use Rattle.rules.specs.Walk.{powers, units, step, round}
@@ -102,15 +102,15 @@ solid-sides (IsStack k) bytes t = let h = stack-sides k bytes t in record { ofX 
 pub solid-cube : (solid : Solid) (bytes : List ℕ) → T (permitted solid bytes) → (p : Vector) → T (isInside (look solid bytes p)) → InCube 1023 p
 solid-cube solid bytes t p i = in-cube 1023 (box solid) p (solid-sides solid bytes t) (rw (look-inside solid bytes p) at i)
 
--- ---- each part of every triangle vector is within 1023 along the walk, on both solids: at the beginning, and after a step out of a round that was answered
+-- ---- each part of every triangle vector is within 1023 along the walk, on both solids: at the beginning, and after the step that a round chose
 pub units-within : All (Bounded 1023) units
 units-within = record { of0 = small 1 0 0 tt tt tt; of1 = small 0 1 0 tt tt tt; of2 = small 0 0 1 tt tt tt }
   where
     small : (a b c : ℕ) → T (leb a 1023) → T (leb b 1023) → T (leb c 1023) → Bounded 1023 (vector (pos a) (pos b) (pos c))
     small a b c h k l = record { in-x = record { size = lit≤ h }; in-y = record { size = lit≤ k }; in-z = record { size = lit≤ l } }
 
-pub triangle-within : (solid : Solid) (bytes : List ℕ) (q s : Vector) (R : ℕ) (m : Triangle) {c : Choice} {t : List Vector}
-    → T (permitted solid bytes) → T (isInside (look solid bytes q)) → Signs s → round (look solid bytes) q s (powers R) m ≡ answered c t
-    → All (Bounded 1023) m → (x : Pair) → All (Bounded 1023) (step m x)
-triangle-within solid bytes q s R m ok inside signed e h x =
-    step-within (look solid bytes) 1023 (solid-cube solid bytes ok) q s (solid-cube solid bytes ok q inside) signed R m e h x
+pub triangle-within : (solid : Solid) (bytes : List ℕ) (q s : Vector) (R : ℕ) (ps : List Pair) (m : Triangle) (x : Pair) {t : List Vector}
+    → T (permitted solid bytes) → T (isInside (look solid bytes q)) → Signs s → round (look solid bytes) q s (powers R) ps m ≡ answered (Chosen x) t
+    → All (Bounded 1023) m → All (Bounded 1023) (step m x)
+triangle-within solid bytes q s R ps m x ok inside signed e h =
+    step-within (look solid bytes) 1023 (solid-cube solid bytes ok) q s (solid-cube solid bytes ok q inside) signed R ps m x e h

@@ -1,18 +1,20 @@
 -- Frames: laying in by signs. Every fact of the walk is proved in frame coordinates; these lemmas carry it into the box and back.
 use mathlib.Core.Path.{_≡_, refl, sym, ap, ap₂, _∙_}
 use mathlib.Core.Logic.{_⊎_, inl, inr}
+use mathlib.Core.Bool.{false}
 use mathlib.Core.List.{[], _∷_}
 use Prim.Native.Nat.{ℕ, zero, suc, _+_, _/_, _%_}
 use native.Mathlib.Omega.{arith}
-use lib.IntN.{ℤ, pos, negsuc, natAbs, _+ℤ_, _-ℤ_, _*ℤ_}
+use lib.IntN.{ℤ, pos, negsuc, natAbs, _+ℤ_, _*ℤ_}
 use lib.Signed.{_≤ℤ_}
 use Rattle.integers.specs.Reify.{byring, sides}
 use Rattle.integers.specs.Order.{parts, linear, atom, fact}
 use Rattle.integers.specs.Sizes.{product-size}
 use Rattle.rules.specs.declared.Vector.{Vector}
-use Rattle.rules.specs.Vectors.{_⊕_, _⊖_, scale, dot, lay, size}
-use Rattle.rules.specs.Walk.{sign, signs}
-use Rattle.laws.specs.Parts.{Parts, vector-eq, Positive, of3}
+use Rattle.rules.specs.Vectors.{_⊕_, scale, dot, lay, size}
+use Rattle.rules.specs.Walk.{sign, signs, Axis}
+use Rattle.laws.specs.Levels.{isZero, not-zero}
+use Rattle.laws.specs.Parts.{Parts, part, part-of, part-lay, vector-eq, NonNegative, Positive, of3}
 
 abbrev pub IsSign : ℤ → Type 0
 IsSign z = (z ≡ pos 1) ⊎ (z ≡ negsuc 0)
@@ -54,13 +56,6 @@ pub lay-scale : (s u : Vector) (d : ℤ) → lay s (scale d u) ≡ scale d (lay 
 unfolding lay scale
 lay-scale s u d = vector-eq (swapped (s .x) (u .x) d) (swapped (s .y) (u .y) d) (swapped (s .z) (u .z) d)
 
-spread : (s a b : ℤ) → s *ℤ (a -ℤ b) ≡ s *ℤ a -ℤ s *ℤ b
-spread s a b = byring (s ∷ a ∷ b ∷ []) (search sides depth 40 fits 5000) tt
-
-pub lay-difference : (s a b : Vector) → lay s (a ⊖ b) ≡ lay s a ⊖ lay s b
-unfolding lay _⊖_
-lay-difference s a b = vector-eq (spread (s .x) (a .x) (b .x)) (spread (s .y) (a .y) (b .y)) (spread (s .z) (a .z) (b .z))
-
 gathered : (s a b : ℤ) → s *ℤ (a +ℤ b) ≡ s *ℤ a +ℤ s *ℤ b
 gathered s a b = byring (s ∷ a ∷ b ∷ []) (search sides depth 40 fits 5000) tt
 
@@ -73,15 +68,31 @@ pub sign-size : (s z : ℤ) → IsSign s → natAbs (s *ℤ z) ≡ natAbs z
 sign-size s z (inl e) = product-size s z ∙ rw e (omega arith)
 sign-size s z (inr e) = product-size s z ∙ rw e (omega arith)
 
+-- whether a part is 0 doesn't depend on its sign
+zero-size : (z : ℤ) → isZero z ≡ isZero (pos (natAbs z))
+zero-size (pos zero) = refl
+zero-size (pos (suc k)) = refl
+zero-size (negsuc k) = refl
+
+pub sign-zero : (s z : ℤ) → IsSign s → isZero (s *ℤ z) ≡ isZero z
+sign-zero s z g = zero-size (s *ℤ z) ∙ ap (λ (k : ℕ). isZero (pos k)) (sign-size s z g) ∙ sym (zero-size z)
+
+-- a part that is not 0 and not against the frame is at least 1 in it
+pub lay-part-zero : (s n : Vector) → Signs s → (k : Axis) → isZero (part k (lay s n)) ≡ isZero (part k n)
+lay-part-zero s n g k = ap isZero (part-lay k s n) ∙ sign-zero (part k s) (part k n) (part-of g k)
+
+pub lay-part-high : (s n : Vector) → Signs s → NonNegative (lay s n) → (k : Axis) → isZero (part k n) ≡ false → pos 1 ≤ℤ part k (lay s n)
+lay-part-high s n g h k e = not-zero (part k (lay s n)) (lay-part-zero s n g k ∙ e) (part-of h k)
+
 pub lay-size : (s a : Vector) → Signs s → size (lay s a) ≡ size a
 unfolding size lay
 lay-size s a g = ap₂ _+_ (ap₂ _+_ (sign-size _ _ (g .ofX)) (sign-size _ _ (g .ofY))) (sign-size _ _ (g .ofZ))
 
-natural : (z : ℤ) → pos 1 ≤ℤ z → z ≡ pos (natAbs z)
+natural : (z : ℤ) → pos 0 ≤ℤ z → z ≡ pos (natAbs z)
 natural (pos k) h = refl
 natural (negsuc k) h = absurd (h .le)
 
-pub sum-size : (n : Vector) → Positive n → n .x +ℤ n .y +ℤ n .z ≡ pos (size n)
+pub sum-size : (n : Vector) → NonNegative n → n .x +ℤ n .y +ℤ n .z ≡ pos (size n)
 unfolding size
 sum-size n h = ap₂ _+ℤ_ (ap₂ _+ℤ_ (natural _ (h .ofX)) (natural _ (h .ofY))) (natural _ (h .ofZ))
 

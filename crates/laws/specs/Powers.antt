@@ -1,5 +1,5 @@
 -- The powers are 1, 2, 4, .. up to the first that is at least R; how many there are, how far they reach, and what they make of the looks.
-use mathlib.Core.Path.{_≡_, refl}
+use mathlib.Core.Path.{_≡_, refl, sym, ap, _∙_}
 use mathlib.Core.Logic.{_⊎_, inl, inr}
 use mathlib.Core.Bool.{Bool, true, false}
 use mathlib.Core.List.{List, [], _∷_}
@@ -74,15 +74,21 @@ few (suc j) R l (k ∷ i ∷ ks) h d = omega (arith, few j R (l + l) (i ∷ ks) 
 pub few-powers : (R : ℕ) → R ≤ 256 → length (powers R) ≤ 9
 few-powers R h = few 8 R 1 (powers R) (powers-reach R) h
 
--- ---- looks: 2 for the start, K for each of 3 axes, 6K for each of w - 2 rounds
-pub looks-add-up : (K w : ℕ) → 3 ≤ w → 1 + (1 + 3 * K) + (suc (w - 3) * (6 * K) + 0) ≤ 2 + K * (6 * w - 9)
-looks-add-up K w h = rw e (omega (arith, NatL.suc-mul r (6 * K), NatL.mul-left-comm r 6 K, NatL.mul-add K (6 * r) 9, NatL.mul-left-comm K 6 r, NatL.mul-comm K r))
+-- ---- looks: 2 for the start; K for each of r remaining axes and 2K for each level one, n with those of the start; and p pairs in each of d + 1 rounds, l
+pub looks-add-up : (K r p d n l : ℕ) → r ≤ 3 → n + r * K ≤ 2 + 6 * K → l ≤ suc d * (p * K) → n + l ≤ 2 + K * (6 - r + p * suc d)
+looks-add-up K r p d n l three h k =
+    omega (arith, NatL.mul-comm K (6 - r + p * suc d), NatL.add-mul (6 - r) (p * suc d) K, rest, ap (λ (z : ℕ). z * K) (NatL.mul-comm p (suc d)), NatL.mul-assoc (suc d) p K)
   where
-    r : ℕ
-    r = w - 3
+    rest : (6 - r) * K + r * K ≡ 6 * K
+    rest = sym (NatL.add-mul (6 - r) r K) ∙ ap (λ (z : ℕ). z * K) (omega arith)
 
-    e : 6 * w - 9 ≡ 6 * r + 9
-    e = omega arith
+-- with r remaining axes r(r - 1) pairs take part; three take the most
+pub three-most : (r R M : ℕ) → 1 ≤ r → r ≤ 3 → R ≤ M → 3 ≤ M → 6 - r + r * (r - 1) * suc (R - r) ≤ 6 * M - 9
+three-most zero R M h k i j = absurd (omega arith)
+three-most (suc zero) R M h k i j = omega arith
+three-most (suc (suc zero)) R M h k i j = omega arith
+three-most (suc (suc (suc zero))) R M h k i j = omega arith
+three-most (suc (suc (suc (suc r)))) R M h k i j = absurd (omega arith)
 
-pub few-looks : (R : ℕ) → R ≤ 256 → 2 + length (powers R) * (6 * R - 9) ≤ 13745
-few-looks R h = let k : 6 * R - 9 ≤ 1527 = omega arith in omega (arith, NatL.mul-le-mul (few-powers R h) k)
+pub few-looks : (R M : ℕ) → R ≤ 256 → M ≤ 256 → 2 + length (powers R) * (6 * M - 9) ≤ 13745
+few-looks R M h k = let l : 6 * M - 9 ≤ 1527 = omega arith in omega (arith, NatL.mul-le-mul (few-powers R h) l)

@@ -1,35 +1,41 @@
--- On a stack no reach above 64 is accepted. The walk's end looked both ways from q at every power, so at one of at least 128: in a box of at most 256
--- a side m1 - m0 is then zero, and a triangle with m0 = m1 has determinant 0, not 1.
-use mathlib.Core.Path.{_≡_, refl, sym, ap, _∙_}
+-- On a stack no reach above 64 is accepted. A level axis, and the walk's end, looked both ways from q at every power, so at one of at least 128: in a box of
+-- at most 256 a side a vector that stays inside both ways there is zero. No unit vector is, and a triangle with m0 = m1 has determinant 0, not 1.
+use mathlib.Core.Path.{_≡_, refl, sym, ap, subst, _∙_}
 use mathlib.Core.Logic.{inl, inr}
-use mathlib.Core.Bool.{Bool, true, false}
+use mathlib.Core.Bool.{Bool, true, false, not}
 use mathlib.Core.List.{List, [], _∷_}
 use Prim.Native.Nat.{ℕ, zero, suc, _*_, _≤_}
 use native.Mathlib.Nat as NatL
 use native.Mathlib.Omega.{arith}
 use lib.Dec.{T, leb, leb→le, nleb→lt}
-use lib.IntN.{ℤ, pos, negsuc, natAbs, _+ℤ_, _-ℤ_, _*ℤ_}
+use lib.IntN.{ℤ, pos, negsuc, negℤ, natAbs, _+ℤ_, _-ℤ_, _*ℤ_}
 use lib.Signed.{_≤ℤ_}
 use Rattle.integers.specs.Reify.{byring, sides, by-eq}
 use Rattle.integers.specs.Order.{parts, linear, atom, fact}
 use Rattle.integers.specs.Sizes.{Within, sizes, product-size}
 use Rattle.rules.specs.declared.Vector.{Vector}
 use Rattle.rules.specs.declared.Look.{Look}
+use Rattle.rules.specs.declared.Levels.{Levels}
 use Rattle.rules.specs.declared.Stack.{Stack}
 use Rattle.rules.specs.declared.Solid.the-variants.{Stack as IsStack}
 use Rattle.rules.specs.declared.Accepted.{Accepted as AcceptedPick}
 use Rattle.rules.specs.declared.Pick.the-variants.{Accepted}
 use Rattle.rules.specs.declared.Triangle.{Triangle}
-use Rattle.rules.specs.Vectors.{_⊕_, _⊖_, scale, lay, dot, cross, det}
-use Rattle.rules.specs.Walk.{powers}
+use Rattle.rules.specs.declared.Pair.the-variants.{P01, P10}
+use Rattle.rules.specs.Vectors.{_⊖_, minus, lay, dot, cross, det}
+use Rattle.rules.specs.Walk.{powers, Axis, axis0, axis1, axis2, unit, way, level, takesPart}
 use Rattle.rules.specs.Solids.{look}
 use Rattle.rules.specs.Pick.{isInside, pickOf}
+use Rattle.laws.specs.Tests.{both}
+use Rattle.laws.specs.Only.{each-taking}
+use Rattle.laws.specs.Parts.{part, part-of, vector-by-parts, part-sum, part-difference, part-scale, part-minus, part-lay}
 use Rattle.laws.specs.Triples.{detOf, of9}
 use Rattle.laws.specs.Frames.{IsSign, Signs, signs-are, sign-size}
 use Rattle.laws.specs.Looks.{place, Fell}
 use Rattle.laws.specs.Powers.{Reaches, powers-128}
 use Rattle.laws.specs.Ranges.{Between, InCube}
 use Rattle.laws.specs.Boxes.{stack-cube}
+use Rattle.laws.specs.Axes.{FellAlong, AxesOf}
 use Rattle.laws.specs.Picks.{End, permitted-reach}
 use Rattle.laws.specs.Answers.{told-accepted}
 
@@ -50,54 +56,82 @@ no-size : (z : ℤ) → natAbs z ≡ 0 → z ≡ pos 0
 no-size (pos k) e = ap pos e
 no-size (negsuc k) e = absurd (omega arith)
 
-backward : (l q s a b : ℤ) → q +ℤ l *ℤ (s *ℤ (a -ℤ b)) ≡ q -ℤ l *ℤ (s *ℤ (b -ℤ a))
-backward l q s a b = byring (l ∷ q ∷ s ∷ a ∷ b ∷ []) (search sides depth 40 fits 5000) tt
+backward : (l q s z : ℤ) → q +ℤ l *ℤ (s *ℤ negℤ z) ≡ q -ℤ l *ℤ (s *ℤ z)
+backward l q s z = byring (l ∷ q ∷ s ∷ z ∷ []) (search sides depth 40 fits 5000) tt
 
 half : (q d : ℤ) → Between 255 (q +ℤ d) → Between 255 (q -ℤ d) → Within 127 d
 half q d h k =
     let x = atom q in let y = atom d in
     omega (arith, sizes, fact (search linear) (h .low), fact (search linear) (h .high), fact (search linear) (k .low), fact (search linear) (k .high))
 
-zero-part : (q s a b : ℤ) (l : ℕ) → IsSign s → 128 ≤ l → Between 255 (q +ℤ pos l *ℤ (s *ℤ (b -ℤ a))) → Between 255 (q +ℤ pos l *ℤ (s *ℤ (a -ℤ b))) → b -ℤ a ≡ pos 0
-zero-part q s a b l g h j k =
-    let w = half q (pos l *ℤ (s *ℤ (b -ℤ a))) j (rw (backward (pos l) q s a b) at k) in
-    no-size (b -ℤ a) (none-left l (natAbs (b -ℤ a)) h (rw (← far) (w .size)))
+zero-part : (q s z : ℤ) (l : ℕ) → IsSign s → 128 ≤ l → Between 255 (q +ℤ pos l *ℤ (s *ℤ z)) → Between 255 (q +ℤ pos l *ℤ (s *ℤ negℤ z)) → z ≡ pos 0
+zero-part q s z l g h j k =
+    let w = half q (pos l *ℤ (s *ℤ z)) j (rw (backward (pos l) q s z) at k) in
+    no-size z (none-left l (natAbs z) h (rw (← far) (w .size)))
   where
-    far : natAbs (pos l *ℤ (s *ℤ (b -ℤ a))) ≡ l * natAbs (b -ℤ a)
-    far = product-size (pos l) (s *ℤ (b -ℤ a)) ∙ ap (λ (y : ℕ). l * y) (sign-size s (b -ℤ a) g)
+    far : natAbs (pos l *ℤ (s *ℤ z)) ≡ l * natAbs z
+    far = product-size (pos l) (s *ℤ z) ∙ ap (λ (y : ℕ). l * y) (sign-size s z g)
 
--- two equal vectors have no volume
-flat : (m : Triangle) → m .m1 .x -ℤ m .m0 .x ≡ pos 0 → m .m1 .y -ℤ m .m0 .y ≡ pos 0 → m .m1 .z -ℤ m .m0 .z ≡ pos 0 → detOf m ≡ pos 0
-unfolding det dot cross
-flat m a b c =
-    by-eq (m .m2 .y *ℤ m .m0 .z -ℤ m .m2 .z *ℤ m .m0 .y) a
-    (by-eq (m .m2 .z *ℤ m .m0 .x -ℤ m .m2 .x *ℤ m .m0 .z) b
-    (by-eq (m .m2 .x *ℤ m .m0 .y -ℤ m .m2 .y *ℤ m .m0 .x) c
+-- ---- no unit vector is zero, and two equal vectors have no volume
+unit-one : (k : Axis) → part k (unit k) ≡ pos 1
+unit-one axis0 = refl
+unit-one axis1 = refl
+unit-one axis2 = refl
+
+back : (a b : Vector) → a ⊖ b ≡ minus (b ⊖ a)
+back a b = vector-by-parts (λ k. simp (part-difference, part-minus) (byring (part k a ∷ part k b ∷ []) (search sides depth 40 fits 5000) tt))
+
+equal-flat : (m : Triangle) → ((k : Axis) → part k (m .m1 ⊖ m .m0) ≡ pos 0) → detOf m ≡ pos 0
+unfolding det dot cross _⊖_
+equal-flat m h =
+    by-eq (m .m2 .y *ℤ m .m0 .z -ℤ m .m2 .z *ℤ m .m0 .y) (h axis0)
+    (by-eq (m .m2 .z *ℤ m .m0 .x -ℤ m .m2 .x *ℤ m .m0 .z) (h axis1)
+    (by-eq (m .m2 .x *ℤ m .m0 .y -ℤ m .m2 .y *ℤ m .m0 .x) (h axis2)
     (byring (of9 m) (search sides depth 40 fits 5000) tt)))
 
-module _ (look : Vector → Look) (box : (p : Vector) → T (isInside (look p)) → InCube 255 p) (q s : Vector) (signed : Signs s) where
-  too-far : (ls : List ℕ) (B : ℕ) (e : Triangle × ℕ) → Reaches 128 ls → End look q s ls B e → ⊥
-  unfolding _⊕_ _⊖_ scale lay
-  too-far ls B e r h =
+module _ (look : Vector → Look) (box : (p : Vector) → T (isInside (look p)) → InCube 255 p) (q s : Vector) (signed : Signs s) (R : ℕ) (far : Reaches 128 (powers R)) where
+  abbrev ls : List ℕ
+  ls = powers R
+
+  -- a vector that fell neither way
+  still : (u : Vector) → Fell look q (lay s u) ls false → Fell look q (lay s (minus u)) ls false → (k : Axis) → part k u ≡ pos 0
+  still u f g k =
+      let b = both-in look q (lay s u) (lay s (minus u)) 128 ls far f g in
+      zero-part (part k q) (part k s) (part k u) (b .0) (part-of signed k) (b .1) (subst (Between 255) (along u (b .0)) (part-of (box _ (b .2)) k)) (subst (Between 255) (along (minus u) (b .0) ∙ opposite (b .0)) (part-of (box _ (b .3)) k))
+    where
+      along : (u : Vector) (l : ℕ) → part k (place look q (lay s u) l) ≡ part k q +ℤ pos l *ℤ (part k s *ℤ part k u)
+      along u l = simp (part-sum, part-scale, part-lay) refl
+
+      opposite : (l : ℕ) → part k q +ℤ pos l *ℤ (part k s *ℤ part k (minus u)) ≡ part k q +ℤ pos l *ℤ (part k s *ℤ negℤ (part k u))
+      opposite l = ap (λ z. part k q +ℤ pos l *ℤ (part k s *ℤ z)) (part-minus k u)
+
+  no-level : (k : Axis) (b : Bool) → FellAlong look q s ls (unit k) b → T (not b)
+  no-level k false f = tt
+  no-level k true f = let o : pos 1 ≡ pos 0 = sym (unit-one k) ∙ still (unit k) (f .1) (f .0) k in absurd (omega (arith, parts))
+
+  too-far : (v : Levels) (e : Triangle × ℕ) → AxesOf look q s ls v → End look q s v R e → ⊥
+  unfolding takesPart
+  too-far v e a h =
       let m = e .0 in
-      let f = both-in look q _ _ 128 ls r (h .stood .0) (h .stood .1 .1 .0) in
-      let i = box _ (f .2) in let j = box _ (f .3) in
-      let o : pos 1 ≡ pos 0 = sym (h .tame .unimodular) ∙ flat m
-      (zero-part (q .x) (s .x) (m .m0 .x) (m .m1 .x) (f .0) (signed .ofX) (f .1) (i .ofX) (j .ofX))
-      (zero-part (q .y) (s .y) (m .m0 .y) (m .m1 .y) (f .0) (signed .ofY) (f .1) (i .ofY) (j .ofY))
-      (zero-part (q .z) (s .z) (m .m0 .z) (m .m1 .z) (f .0) (signed .ofZ) (f .1) (i .ofZ) (j .ofZ)) in
+      let stood = each-taking (λ x. Fell look q (lay s (way m x)) ls false) v (h .stood) in
+      let x = no-level axis0 (level v axis0) (a .axis axis0 .fell) in
+      let y = no-level axis1 (level v axis1) (a .axis axis1 .fell) in
+      let f = stood P01 (both (not (v .x)) (not (v .y)) x y) in
+      let g = subst (λ u. Fell look q (lay s u) ls false) (back (m .m0) (m .m1)) (stood P10 (both (not (v .y)) (not (v .x)) y x)) in
+      let o : pos 1 ≡ pos 0 = sym (h .tame .unimodular) ∙ equal-flat m (still (way m P01) f g) in
       omega (arith, parts)
 
-  reach-64 : (R B : ℕ) (e : Triangle × ℕ) → End look q s (powers R) B e → R ≤ 64
-  reach-64 R B e h = go (leb R 64) refl
-    where
-      go : (b : Bool) → leb R 64 ≡ b → R ≤ 64
-      go true k = leb→le R 64 (rw k tt)
-      go false k = absurd (too-far (powers R) B e (powers-128 R (nleb→lt R 64 (rw k tt))) h)
+reach-64 : (look : Vector → Look) → ((p : Vector) → T (isInside (look p)) → InCube 255 p) → (q s : Vector) → Signs s → (R : ℕ) (v : Levels) (e : Triangle × ℕ) → AxesOf look q s (powers R) v → End look q s v R e → R ≤ 64
+reach-64 look box q s signed R v e a h = go (leb R 64) refl
+  where
+    go : (b : Bool) → leb R 64 ≡ b → R ≤ 64
+    go true k = leb→le R 64 (rw k tt)
+    go false k = absurd (too-far look box q s signed R (powers-128 R (nleb→lt R 64 (rw k tt))) v e a h)
 
 pub stack-reach : (stack : Stack) (bytes : List ℕ) (p : Vector) (frame reach : ℤ) (a : AcceptedPick) → pickOf (IsStack stack) bytes p frame reach ≡ Accepted a → reach ≤ℤ pos 64
 stack-reach stack bytes p frame reach a is =
     let h = told-accepted (IsStack stack) bytes p frame reach a is in
     let R = permitted-reach reach (h .permittedReach) in
-    let small = reach-64 (look (IsStack stack) bytes) (stack-cube stack bytes (h .permittedSolid)) _ _ (signs-are (natAbs frame)) (natAbs reach) _ _ (h .accepting .end) in
+    let k = h .accepting in
+    let small = reach-64 (look (IsStack stack) bytes) (stack-cube stack bytes (h .permittedSolid)) _ _ (signs-are (natAbs frame)) (natAbs reach) (k .level) (k .at) (k .asked) (k .end) in
     omega (arith, parts, R .2)

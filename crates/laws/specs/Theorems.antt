@@ -1,9 +1,10 @@
 -- What holds on every solid, wedge or stack, for every pick: the statements. The proofs are in the modules beside.
-use mathlib.Core.Path.{_≡_}
+use mathlib.Core.Path.{_≡_, refl, sym, ap, subst, _∙_}
 use mathlib.Core.Bool.{false, not}
 use mathlib.Core.List.{List, []}
-use Prim.Native.Nat.{ℕ, _+_, _*_, _-_, _≤_}
+use Prim.Native.Nat.{ℕ, zero, suc, _+_, _*_, _-_, _≤_, max}
 use native.Mathlib.Nat as NatL
+use native.Mathlib.Omega.{arith}
 use lib.Dec.{T}
 use lib.ListN.{length}
 use lib.IntN.{ℤ, pos, natAbs, _-ℤ_, _*ℤ_}
@@ -12,34 +13,41 @@ use Rattle.rules.specs.declared.Vector.{Vector}
 use Rattle.rules.specs.declared.Solid.{Solid}
 use Rattle.rules.specs.declared.Solid.the-variants.{Stack as IsStack}
 use Rattle.rules.specs.declared.Stack.{Stack}
+use Rattle.rules.specs.declared.Levels.{Levels}
 use Rattle.rules.specs.declared.Triangle.{Triangle}
 use Rattle.rules.specs.declared.Pair.{Pair}
 use Rattle.rules.specs.declared.Pair.the-variants.{P01, P02}
-use Rattle.rules.specs.declared.Choice.{Choice}
-use Rattle.rules.specs.declared.Choice.the-variants.{Nothing}
+use Rattle.rules.specs.declared.Choice.the-variants.{Nothing, Chosen}
 use Rattle.rules.specs.declared.Accepted.{Accepted as AcceptedPick}
 use Rattle.rules.specs.declared.Refused.{Refused as RefusedPick}
+use Rattle.rules.specs.declared.Pick.{Pick}
 use Rattle.rules.specs.declared.Pick.the-variants.{Accepted, Refused}
 use Rattle.rules.specs.Vectors.{_⊕_, scale, dot, lay}
 use Rattle.rules.specs.Solids.{box, inBox, permitted, look}
 use Rattle.rules.specs.Asked.{answered}
-use Rattle.rules.specs.Walk.{signs, powers, units, second, way, step, determinant, inside, choice, round}
+use Rattle.rules.specs.Walk.{signs, powers, Axis, axis0, axis1, axis2, unit, units, vectorOf, pairs, second, way, step, levels, level, keep, only, remaining, takesPart, determinant, inside, choice, round}
 use Rattle.rules.specs.Pick.{isInside, pickOf}
-use Rattle.laws.specs.Parts.{Positive}
-use Rattle.laws.specs.Triples.{All, detOf, step-det}
+use Rattle.laws.specs.Parts.{NonNegative, Positive, part, parts-by}
+use Rattle.laws.specs.Triples.{All, all-by, detOf, step-det}
+use Rattle.laws.specs.Levels as Levels
+use Rattle.laws.specs.Levels.{isZero, levelsOf, levels-of, levels-eq}
+use Rattle.laws.specs.Flat.{weight}
+use Rattle.laws.specs.Generators.{Combines, generators, two-sides}
 use Rattle.laws.specs.Tame.{units-tame}
+use Rattle.laws.specs.Sphere as Sphere
 use Rattle.laws.specs.Choosing as Choosing
-use Rattle.laws.specs.Frames.{signs-are}
+use Rattle.laws.specs.Choosing.{best}
+use Rattle.laws.specs.Frames.{Signs, signs-are, lay-part-high}
 use Rattle.laws.specs.Powers as Powers
 use Rattle.laws.specs.Powers.{UpTo, few-looks}
-use Rattle.laws.specs.Boxes.{outside-box}
-use Rattle.laws.specs.Answers.{laid, stepsOf, looksOf, told-accepted, told-refused, told-steps, told-looks, accepting-determinant, accepting-products, accepting-sides, accepting-signs}
-use Rattle.laws.specs.Stacks as Stacks
-use Rattle.laws.specs.Sphere as Sphere
-use Rattle.laws.specs.Choosing.{best}
-use Rattle.laws.specs.Boxes as Boxes
 use Rattle.laws.specs.Ranges.{Bounded}
-use Rattle.laws.specs.Frames.{Signs}
+use Rattle.laws.specs.Boxes as Boxes
+use Rattle.laws.specs.Boxes.{outside-box}
+use Rattle.laws.specs.Next.{LevelsAnswered, NextLook}
+use Rattle.laws.specs.Axes.{levels-answered}
+use Rattle.laws.specs.Picks.{Accepting}
+use Rattle.laws.specs.Answers.{laid, stepsOf, looksOf, foundOf, stopOf, told-accepted, told-refused, told-steps, told-looks, accepting-determinant, accepting-products, accepting-generated, accepting-signs, accepting-steps, accepting-stays, accepting-axes}
+use Rattle.laws.specs.Stacks as Stacks
 
 -- ---- the powers are 1, 2, 4, .. up to the first that is at least R
 pub powers-reach : (R : ℕ) → UpTo R 1 (powers R)
@@ -67,16 +75,23 @@ not-inside-itself = Choosing.not-inside-itself
 pub best-is-choice : (m : Triangle) → detOf m ≡ pos 1 → (falling : List Pair) → best m Nothing falling ≡ choice m falling
 best-is-choice = Choosing.best-is-choice
 
--- ---- each part of every triangle vector stays within 1023: it does at the beginning, and if it does before a round that was answered, it does after a step
+-- ---- each part of every triangle vector stays within 1023: it does at the beginning, and if it does before a round, it does after the step that the round chose
 pub units-within : All (Bounded 1023) units
 units-within = Boxes.units-within
 
-pub triangle-within : (solid : Solid) (bytes : List ℕ) (q s : Vector) (R : ℕ) (m : Triangle) {c : Choice} {t : List Vector}
-    → T (permitted solid bytes) → T (isInside (look solid bytes q)) → Signs s → round (look solid bytes) q s (powers R) m ≡ answered c t
-    → All (Bounded 1023) m → (x : Pair) → All (Bounded 1023) (step m x)
+pub triangle-within : (solid : Solid) (bytes : List ℕ) (q s : Vector) (R : ℕ) (ps : List Pair) (m : Triangle) (x : Pair) {t : List Vector}
+    → T (permitted solid bytes) → T (isInside (look solid bytes q)) → Signs s → round (look solid bytes) q s (powers R) ps m ≡ answered (Chosen x) t
+    → All (Bounded 1023) m → All (Bounded 1023) (step m x)
 triangle-within = Boxes.triangle-within
 
+-- ---- with r remaining axes r(r - 1) pairs take part
+pub pairs-taking : (v : Levels) → length (only (takesPart v) pairs) ≡ length (remaining v) * (length (remaining v) - 1)
+pairs-taking = Levels.pairs-taking
+
 module _ (solid : Solid) (bytes : List ℕ) (p : Vector) (frame reach : ℤ) where
+  abbrev R : ℕ
+  R = natAbs reach
+
   -- K, the number of powers
   abbrev K : ℕ
   K = length (powers (natAbs reach))
@@ -84,35 +99,104 @@ module _ (solid : Solid) (bytes : List ℕ) (p : Vector) (frame reach : ℤ) whe
   abbrev s : Vector
   s = signs (natAbs frame)
 
-  -- ---- at most R - 3 steps and 2 + K(6R - 9) looks, refused or accepted; so at most 13,745
-  pub steps-at-most : stepsOf (pickOf solid bytes p frame reach) ≤ natAbs reach - 3
+  abbrev q : Vector
+  q = p ⊕ signs (natAbs frame)
+
+  -- ---- at most R - 2 steps and 2 + K(6R - 9) looks, with 3 for a smaller R, refused or accepted; so at most 13,745
+  pub steps-at-most : stepsOf (pickOf solid bytes p frame reach) ≤ natAbs reach - 2
   steps-at-most = told-steps solid bytes p frame reach
 
-  pub looks-at-most : looksOf (pickOf solid bytes p frame reach) ≤ 2 + K * (6 * natAbs reach - 9)
-  looks-at-most = told-looks solid bytes p frame reach _ (λ _ _. NatL.le-refl _)
+  pub looks-at-most : looksOf (pickOf solid bytes p frame reach) ≤ 2 + K * (6 * max (natAbs reach) 3 - 9)
+  looks-at-most = told-looks solid bytes p frame reach _ (λ _. NatL.le-refl _)
+
+  pub looks-at-most-from-3 : 3 ≤ natAbs reach → looksOf (pickOf solid bytes p frame reach) ≤ 2 + K * (6 * natAbs reach - 9)
+  looks-at-most-from-3 h = let e : max R 3 ≡ R = omega (arith, h) in rw e at looks-at-most
 
   pub looks-at-most-13745 : looksOf (pickOf solid bytes p frame reach) ≤ 13745
-  looks-at-most-13745 = told-looks solid bytes p frame reach 13745 (λ _ h. few-looks (natAbs reach) h)
+  looks-at-most-13745 = told-looks solid bytes p frame reach 13745 (λ h. few-looks R (max R 3) h (omega arith))
 
-  -- ---- an accepted triangle has determinant 1 in the frame, and the normal's product with each of its vectors is 1
+  -- each axis was asked, and v has those that are level
+  abbrev pub Answered : Levels → Type 0
+  Answered = LevelsAnswered (look solid bytes) (p ⊕ signs (natAbs frame)) (signs (natAbs frame)) (powers (natAbs reach))
+
+  -- ---- an accepted pick
   module _ (a : AcceptedPick) (is : pickOf solid bytes p frame reach ≡ Accepted a) where
+    abbrev accepting : Accepting (look solid bytes) (p ⊕ signs (natAbs frame)) (signs (natAbs frame)) (natAbs reach) (foundOf a)
+    accepting = told-accepted solid bytes p frame reach a is .accepting
+
+    abbrev signed : Signs (signs (natAbs frame))
+    signed = signs-are (natAbs frame)
+
+    -- an axis is level exactly if the normal's part is 0
+    pub accepted-levels : Answered (levelsOf (a .normal))
+    accepted-levels = accepting-axes accepting signed
+
+    -- the other parts have the frame's sign
+    pub accepted-signs : NonNegative (lay s (a .normal))
+    accepted-signs = accepting-signs accepting signed
+
+    -- a level axis's vector stays the unit vector, laid in
+    pub accepted-stays : (k : Axis) → T (level (levelsOf (a .normal)) k) → vectorOf (a .triangle) k ≡ lay s (unit k)
+    accepted-stays = accepting-stays accepting signed
+
+    -- steps: at most the reach less the remaining axes
+    pub accepted-steps : a .steps ≤ natAbs reach - length (remaining (levelsOf (a .normal)))
+    accepted-steps = accepting-steps accepting signed
+
+    -- the triangle has determinant 1 in the frame; the normal's product is 0 with the vector of a level axis and 1 with every other
     pub accepted-determinant : detOf (laid s (a .triangle)) ≡ pos 1
-    accepted-determinant = accepting-determinant (told-accepted solid bytes p frame reach a is .accepting) (signs-are (natAbs frame))
+    accepted-determinant = accepting-determinant accepting signed
 
-    pub accepted-products : All (λ m. dot (a .normal) m ≡ pos 1) (a .triangle)
-    accepted-products = accepting-products (told-accepted solid bytes p frame reach a is .accepting) (signs-are (natAbs frame))
+    pub accepted-products : (k : Axis) → dot (a .normal) (vectorOf (a .triangle) k) ≡ weight (level (levelsOf (a .normal)) k)
+    accepted-products = accepting-products accepting signed
 
-    -- ---- its sides generate every whole vector of the plane
-    pub accepted-sides : (v : Vector) → dot (a .normal) v ≡ pos 0 → (c1 : ℤ) × (c2 : ℤ) × (v ≡ scale c1 (way (a .triangle) P01) ⊕ scale c2 (way (a .triangle) P02))
-    accepted-sides = accepting-sides (told-accepted solid bytes p frame reach a is .accepting) (signs-are (natAbs frame))
+    -- the level vectors and the sides between the other corners generate every whole vector of the plane
+    pub accepted-generated : (v : Vector) → dot (a .normal) v ≡ pos 0 → Combines (generators (levelsOf (a .normal)) (a .triangle)) v
+    accepted-generated = accepting-generated accepting signed
 
-    -- ---- an accepted normal has the frame's signs
-    pub accepted-signs : Positive (lay s (a .normal))
-    accepted-signs = accepting-signs (told-accepted solid bytes p frame reach a is .accepting) (signs-are (natAbs frame))
+    -- with no level axis, as document 01 has it
+    module _ (none : (k : Axis) → isZero (part k (a .normal)) ≡ false) where
+      unlevel : levelsOf (a .normal) ≡ levels false false false
+      unlevel = λ i. levels (none axis0 i) (none axis1 i) (none axis2 i)
 
-  -- ---- the place of refusal 8 lies outside the box
+      pub base-signs : Positive (lay s (a .normal))
+      base-signs = parts-by (λ z. pos 1 ≤ℤ z) (lay s (a .normal)) (λ k. lay-part-high s (a .normal) signed accepted-signs k (none k))
+
+      pub base-products : All (λ m. dot (a .normal) m ≡ pos 1) (a .triangle)
+      base-products = all-by (λ k. accepted-products k ∙ ap weight (levels-of (a .normal) k ∙ none k))
+
+      pub base-sides : (v : Vector) → dot (a .normal) v ≡ pos 0 → (c1 : ℤ) × (c2 : ℤ) × (v ≡ scale c1 (way (a .triangle) P01) ⊕ scale c2 (way (a .triangle) P02))
+      base-sides v h = two-sides (a .triangle) v (subst (λ l. Combines (generators l (a .triangle)) v) unlevel (accepted-generated v h))
+
+  -- ---- a refused pick that took a step had asked the axes: at most the reach less those that remain
+  pub refused-steps : (r : RefusedPick) → pickOf solid bytes p frame reach ≡ Refused r → 1 ≤ r .steps → (v : Levels) × Answered v × (r .steps ≤ natAbs reach - length (remaining v))
+  refused-steps r is h = let a = told-refused solid bytes p frame reach r is .fewSteps .asked h in (a .0, levels-answered _ _ _ _ (a .1), a .2)
+
+  -- so with no level axis at most R - 3, refused or accepted, as document 01 has it
+  pub base-steps-at-most : Answered (levels false false false) → stepsOf (pickOf solid bytes p frame reach) ≤ natAbs reach - 3
+  unfolding remaining only keep
+  base-steps-at-most none = go (pickOf solid bytes p frame reach) refl
+    where
+      same : (v : Levels) → Answered v → v ≡ levels false false false
+      same v h = levels-eq (λ k. let e = sym (h k .1) ∙ none k .1 in cc e)
+
+      three : (n : ℕ) (v : Levels) → Answered v → n ≤ natAbs reach - length (remaining v) → n ≤ natAbs reach - 3
+      three n v h k = subst (λ (v : Levels). n ≤ natAbs reach - length (remaining v)) (same v h) k
+
+      go : (x : Pick) → pickOf solid bytes p frame reach ≡ x → stepsOf x ≤ natAbs reach - 3
+      go (Accepted a) is = three (a .steps) (levelsOf (a .normal)) (accepted-levels a is) (accepted-steps a is)
+      go (Refused r) is = refused (r .steps) (refused-steps r is)
+        where
+          refused : (n : ℕ) → (1 ≤ n → (v : Levels) × Answered v × (n ≤ natAbs reach - length (remaining v))) → n ≤ natAbs reach - 3
+          refused zero h = omega arith
+          refused (suc n) h = let a = h (omega arith) in three (suc n) (a .0) (a .1) (a .2)
+
+  -- ---- refusal 8 is given at the voxel that was to be looked at next, and that lies outside the box
+  pub refused-next : (r : RefusedPick) → pickOf solid bytes p frame reach ≡ Refused r → r .number ≡ 8 → NextLook (look solid bytes) q s (powers (natAbs reach)) (stopOf r)
+  refused-next r is e = told-refused solid bytes p frame reach r is .next e
+
   pub refused-outside : (r : RefusedPick) → pickOf solid bytes p frame reach ≡ Refused r → r .number ≡ 8 → T (not (inBox (box solid) (r .place)))
-  refused-outside r is e = outside-box solid bytes (r .place) (told-refused solid bytes p frame reach r is .outside e)
+  refused-outside r is e = outside-box solid bytes (r .place) (refused-next r is e .outside)
 
 -- ---- on a stack no reach above 64 is accepted
 pub stack-reach : (stack : Stack) (bytes : List ℕ) (p : Vector) (frame reach : ℤ) (a : AcceptedPick) → pickOf (IsStack stack) bytes p frame reach ≡ Accepted a → reach ≤ℤ pos 64

@@ -1,15 +1,15 @@
 -- Triples of whole vectors. A step is a row operation, so the determinant stays 1. The cross products b0 = m1×m2, b1 = m2×m0, b2 = m0×m1 are the
--- inverse's columns: v = Σ (b_k·v) m_k, and their sum, the normal, has product 1 with each m_k. So the sides generate the plane of the normal.
+-- inverse's columns: v = Σ (b_k·v) m_k, and their sum, the normal, has product 1 with each m_k.
 use mathlib.Core.Path.{_≡_, sym, _∙_}
 use mathlib.Core.List.{List, [], _∷_}
-use lib.IntN.{ℤ, pos, _+ℤ_, _-ℤ_, _*ℤ_}
-use Rattle.integers.specs.Reify.{byring, sides, by-eq}
+use lib.IntN.{ℤ, pos, _+ℤ_, _*ℤ_}
+use Rattle.integers.specs.Reify.{byring, sides}
 use Rattle.rules.specs.declared.Vector.{Vector}
 use Rattle.rules.specs.declared.Triangle.{Triangle}
 use Rattle.rules.specs.declared.Pair.{Pair}
 use Rattle.rules.specs.declared.Pair.the-variants.{P01, P02, P10, P12, P20, P21}
 use Rattle.rules.specs.Vectors.{_⊕_, _⊖_, scale, dot, cross, det}
-use Rattle.rules.specs.Walk.{triangle, first, second, way, with, step, normal}
+use Rattle.rules.specs.Walk.{Axis, axis0, axis1, axis2, triangle, vectorOf, withVector, from, to, first, second, with, step, normal}
 use Rattle.laws.specs.Parts.{vector-eq, of2, of3, scale-one}
 
 -- ---- P of each triangle vector, and so of m_k, of m_l and of a triangle with a new m_k
@@ -18,30 +18,28 @@ pub record All (P : Vector → Type 0) (m : Triangle) : Type 0 where
   pub of1 : P (m .m1)
   pub of2 : P (m .m2)
 
+pub all-by : {P : Vector → Type 0} {m : Triangle} → ((k : Axis) → P (vectorOf m k)) → All P m
+all-by h = record { of0 = h axis0; of1 = h axis1; of2 = h axis2 }
+
 module _ {P : Vector → Type 0} {m : Triangle} (h : All P m) where
+  pub all-of : (k : Axis) → P (vectorOf m k)
+  all-of axis0 = h .of0
+  all-of axis1 = h .of1
+  all-of axis2 = h .of2
+
+  pub all-with-vector : (k : Axis) {a : Vector} → P a → All P (withVector m k a)
+  all-with-vector axis0 p = record { of0 = p; of1 = h .of1; of2 = h .of2 }
+  all-with-vector axis1 p = record { of0 = h .of0; of1 = p; of2 = h .of2 }
+  all-with-vector axis2 p = record { of0 = h .of0; of1 = h .of1; of2 = p }
+
   pub all-first : (x : Pair) → P (first m x)
-  all-first P01 = h .of0
-  all-first P02 = h .of0
-  all-first P10 = h .of1
-  all-first P12 = h .of1
-  all-first P20 = h .of2
-  all-first P21 = h .of2
+  all-first x = all-of (from x)
 
   pub all-second : (x : Pair) → P (second m x)
-  all-second P01 = h .of1
-  all-second P02 = h .of2
-  all-second P10 = h .of0
-  all-second P12 = h .of2
-  all-second P20 = h .of0
-  all-second P21 = h .of1
+  all-second x = all-of (to x)
 
   pub all-with : (x : Pair) {a : Vector} → P a → All P (with m x a)
-  all-with P01 k = record { of0 = k; of1 = h .of1; of2 = h .of2 }
-  all-with P02 k = record { of0 = k; of1 = h .of1; of2 = h .of2 }
-  all-with P10 k = record { of0 = h .of0; of1 = k; of2 = h .of2 }
-  all-with P12 k = record { of0 = h .of0; of1 = k; of2 = h .of2 }
-  all-with P20 k = record { of0 = h .of0; of1 = h .of1; of2 = k }
-  all-with P21 k = record { of0 = h .of0; of1 = h .of1; of2 = k }
+  all-with x p = all-with-vector (from x) p
 
 -- ---- the determinant
 abbrev pub detOf : Triangle → ℤ
@@ -103,27 +101,3 @@ combined-same b a = vector-eq (together a (b .m0 .x) (b .m1 .x) (b .m2 .x)) (tog
 pub equal-products : (n : Vector) (m : Triangle) → detOf m ≡ pos 1 → dot n (m .m1) ≡ dot n (m .m0) → dot n (m .m2) ≡ dot n (m .m0) → n ≡ scale (dot n (m .m0)) (normal m)
 unfolding normal
 equal-products n m d e f = sym (scale-one n) ∙ (rw (d, e, f) at (expand-crosses m n)) ∙ combined-same (crosses m) (dot n (m .m0))
-
--- ---- the sides generate every whole vector of the plane
-normal-parts : (m : Triangle) (v : Vector) → dot (normal m) v ≡ dot (crosses m .m0) v +ℤ dot (crosses m .m1) v +ℤ dot (crosses m .m2) v
-unfolding dot normal _⊕_ cross
-normal-parts m v = byring (of12 m v) (search sides depth 40 fits 5000) tt
-
-leaning : (a b c x y z : ℤ) → a +ℤ b +ℤ c ≡ pos 0 → a *ℤ x +ℤ b *ℤ y +ℤ c *ℤ z ≡ b *ℤ (y -ℤ x) +ℤ c *ℤ (z -ℤ x)
-leaning a b c x y z e = by-eq x e (byring (a ∷ b ∷ c ∷ x ∷ y ∷ z ∷ []) (search sides depth 40 fits 5000) tt)
-
-pub sides-generate : (m : Triangle) (v : Vector) → detOf m ≡ pos 1 → dot (normal m) v ≡ pos 0 → (c1 : ℤ) × (c2 : ℤ) × (v ≡ scale c1 (way m P01) ⊕ scale c2 (way m P02))
-unfolding scale _⊕_ _⊖_
-sides-generate m v d e = (b, c, sym (scale-one v) ∙ (rw d at (expand m v)) ∙ vector-eq (leaning a b c (m .m0 .x) (m .m1 .x) (m .m2 .x) none) (leaning a b c (m .m0 .y) (m .m1 .y) (m .m2 .y) none) (leaning a b c (m .m0 .z) (m .m1 .z) (m .m2 .z) none))
-  where
-    a : ℤ
-    a = dot (crosses m .m0) v
-
-    b : ℤ
-    b = dot (crosses m .m1) v
-
-    c : ℤ
-    c = dot (crosses m .m2) v
-
-    none : a +ℤ b +ℤ c ≡ pos 0
-    none = sym (normal-parts m v) ∙ e

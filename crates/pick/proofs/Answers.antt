@@ -2,7 +2,7 @@
 use mathlib.Core.Path.{_≡_, refl, sym, ap, _∙_}
 use mathlib.Core.Bool.{Bool, true, false}
 use mathlib.Core.List.{List}
-use Prim.Native.Nat.{ℕ, _-_, _≤_, _<_}
+use Prim.Native.Nat.{ℕ, _≤_, _<_}
 use native.Mathlib.Omega.{arith}
 use lib.Dec.{leb}
 use borrow.Author.Tests.{le-leb, lt-leb}
@@ -13,6 +13,7 @@ use lib.IntN.{ℤ, pos, natAbs}
 use Rattle.rules.specs.declared.Vector.{Vector}
 use Rattle.rules.specs.declared.Solid.{Solid}
 use Rattle.rules.specs.declared.Look.{Look}
+use Rattle.rules.specs.declared.Levels.{Levels}
 use Rattle.rules.specs.declared.Triangle.{Triangle}
 use Rattle.rules.specs.declared.Pick.{Pick}
 use Rattle.rules.specs.declared.Pick.the-variants.{Accepted, Refused as IsRefused}
@@ -22,40 +23,41 @@ use Rattle.rules.specs.Solids.{between, permitted, box, inBox, look}
 use Rattle.solid.specs.Asks.{Permitted}
 use Rattle.laws.specs.Boxes.{look-inside}
 use Rattle.rules.specs.Asked.{Asked, answered, refused}
-use Rattle.rules.specs.Walk.{Stop, stop, signs, powers, normal, units, walk, Found, found, start, rounds}
+use Rattle.rules.specs.Walk.{Stop, stop, signs, powers, pairs, levelled, normal, units, walk, Found, found, start, rounds}
 use Rattle.rules.specs.Pick.{isInside, pick, answer, pickOf}
 use Rattle.falls.specs.Tally.{Tally, yes, no, tally, Gives}
 use Rattle.falls.proofs.Tallies.{then-yes, then-no, ensured, not-ensured, at-once}
 use Rattle.pick.specs.Pick.{told, layTriangle, ending, beginning, placing, Ended, Rounded, Begun, Placed, Picked}
-use Rattle.pick.specs.Start.{Started}
-use Rattle.pick.specs.declared.Start.{Start}
-use Rattle.pick.specs.declared.Start.the-variants.{Begun as StartBegun, Refused as StartRefused}
-use Rattle.walk.specs.Walk.{refusalOf, Walks}
+use Rattle.start.specs.Start.{Started}
+use Rattle.start.specs.declared.Start.{Start}
+use Rattle.start.specs.declared.Start.the-variants.{Begun as StartBegun, Refused as StartRefused}
+use Rattle.round.specs.Round.{taking}
+use Rattle.walk.specs.Walk.{refusalOf, allowed, Walks}
 use Rattle.walk.specs.declared.Walked.{Walked}
 use Rattle.walk.specs.declared.Walked.the-variants.{Ended as WalkEnded, Refused as WalkRefused}
 
 -- ---- the end of the rounds
-module _ (s q : Vector) (R : ℕ) (m : Triangle) (steps looks : ℕ) where
-  ending-accepted : leb (size (normal m)) R ≡ true → Gives looks (ending s q R (m, steps)) (yes (found s q (m, steps)) looks)
+module _ (s q : Vector) (R : ℕ) (v : Levels) (m : Triangle) (steps looks : ℕ) where
+  ending-accepted : leb (size (levelled v (normal m))) R ≡ true → Gives looks (ending s q R v (m, steps)) (yes (found s q v (m, steps)) looks)
   unfolding ending
   ending-accepted e = then-yes _ (ensured (stop 10 q steps) e) at-once
 
-  ending-refused : leb (size (normal m)) R ≡ false → Gives looks (ending s q R (m, steps)) (no (stop 10 q steps) looks)
+  ending-refused : leb (size (levelled v (normal m))) R ≡ false → Gives looks (ending s q R v (m, steps)) (no (stop 10 q steps) looks)
   unfolding ending
   ending-refused e = then-no _ (not-ensured e)
 
-module _ (look : Vector → Look) (s q : Vector) (R looks : ℕ) where
-  rounds-ended : {m : Triangle} {n k : ℕ} {r : Tally Stop Found} → Gives looks (walk look q s (powers R) (R - 3) 0 units) (yes (m, n) k) → Gives k (ending s q R (m, n)) r → Gives looks (rounds look s q R) r
+module _ (look : Vector → Look) (s q : Vector) (R : ℕ) (v : Levels) (looks : ℕ) where
+  rounds-ended : {m : Triangle} {n k : ℕ} {r : Tally Stop Found} → Gives looks (walk look q s (powers R) (taking v pairs) (allowed R v) 0 units) (yes (m, n) k) → Gives k (ending s q R v (m, n)) r → Gives looks (rounds look s q R v) r
   unfolding rounds ending
   rounds-ended h g = then-yes _ h g
 
-  rounds-refused : {e : Stop} {k : ℕ} → Gives looks (walk look q s (powers R) (R - 3) 0 units) (no e k) → Gives looks (rounds look s q R) (no e k)
+  rounds-refused : {e : Stop} {k : ℕ} → Gives looks (walk look q s (powers R) (taking v pairs) (allowed R v) 0 units) (no e k) → Gives looks (rounds look s q R v) (no e k)
   unfolding rounds
   rounds-refused h = then-no _ h
 
 -- ---- the start
 module _ (look : Vector → Look) (s p q : Vector) (R : ℕ) where
-  begun-on : {k : ℕ} {r : Tally Stop Found} → Gives 0 (start look s p q R) (yes tt k) → Gives k (rounds look s q R) r → Gives 0 (beginning look s p q R) r
+  begun-on : {v : Levels} {k : ℕ} {r : Tally Stop Found} → Gives 0 (start look s p q R) (yes v k) → Gives k (rounds look s q R v) r → Gives 0 (beginning look s p q R) r
   unfolding beginning
   begun-on h g = then-yes _ h g
 
@@ -80,11 +82,11 @@ module _ (look : Vector → Look) (s p q : Vector) (R : ℕ) where
 
 -- ---- refusals 1, 2, 3
 module _ (allowed : Bool) (look : Vector → Look) (p : Vector) (frame reach : ℤ) where
-  reach-refused : between (pos 3) reach (pos 256) ≡ false → Gives 0 (pick allowed look p frame reach) (no (stop 1 origin 0) 0)
+  reach-refused : between (pos 1) reach (pos 256) ≡ false → Gives 0 (pick allowed look p frame reach) (no (stop 1 origin 0) 0)
   unfolding pick
   reach-refused e = then-no _ (not-ensured e)
 
-  module _ (a : between (pos 3) reach (pos 256) ≡ true) where
+  module _ (a : between (pos 1) reach (pos 256) ≡ true) where
     frame-refused : between (pos 0) frame (pos 7) ≡ false → Gives 0 (pick allowed look p frame reach) (no (stop 2 origin 0) 0)
     unfolding pick
     frame-refused e = then-yes _ (ensured (stop 1 origin 0) a) (then-no _ (not-ensured e))
@@ -117,23 +119,23 @@ pub is-answer : (x : Asked Stop Found) {r : Pick} → Gives 0 x (told r) → r �
 is-answer x {r} h = told-answer r ∙ ap answerOf (h .is) ∙ tally-answer x
 
 -- ---- from what the callees promised to what the caller promises
-module _ {s q : Vector} {R : ℕ} {m : Triangle} {steps looks : ℕ} {n : Vector} {k : ℕ} (a : n ≡ normal m) (b : k ≡ size n) where
-  pub ended-accepted : {laid : Vector} {t : Triangle} → k ≤ R → laid ≡ lay s n → t ≡ layTriangle s m → Ended s q R m steps looks (Accepted record { normal = laid; triangle = t; apex = q; steps = steps; looks = looks })
+module _ {s q : Vector} {R : ℕ} {v : Levels} {m : Triangle} {steps looks : ℕ} {whole n : Vector} {k : ℕ} (w : whole ≡ normal m) (a : n ≡ levelled v whole) (b : k ≡ size n) where
+  pub ended-accepted : {laid : Vector} {t : Triangle} → k ≤ R → laid ≡ lay s n → t ≡ layTriangle s m → Ended s q R v m steps looks (Accepted record { normal = laid; triangle = t; apex = q; steps = steps; looks = looks })
   unfolding found
-  ended-accepted h e f = record { gives = rw (e, f, a) (ending-accepted s q R m steps looks (le-leb _ _ (rw (b, a) at h))) }
+  ended-accepted h e f = record { gives = rw (e, f, a, w) (ending-accepted s q R v m steps looks (le-leb _ _ (rw (b, a, w) at h))) }
 
-  pub ended-refused : {r : Refused} → R < k → r ≡ refusalOf 10 q steps looks → Ended s q R m steps looks (IsRefused r)
-  ended-refused h e = record { gives = rw e (ending-refused s q R m steps looks (lt-leb _ _ (rw (b, a) at h))) }
+  pub ended-refused : {r : Refused} → R < k → r ≡ refusalOf 10 q steps looks → Ended s q R v m steps looks (IsRefused r)
+  ended-refused h e = record { gives = rw e (ending-refused s q R v m steps looks (lt-leb _ _ (rw (b, a, w) at h))) }
 
-module _ {look : Vector → Look} {s q : Vector} {R looks : ℕ} {w : Walked} (h : Walks look q s R looks w) where
-  pub rounded-ended : {m : Triangle} {n k : ℕ} {r : Pick} → w ≡ WalkEnded m n k → Ended s q R m n k r → Rounded look s q R looks r
-  rounded-ended e g = record { gives = rounds-ended look s q R looks (rw e at (h .gives)) (g .gives) }
+module _ {look : Vector → Look} {s q : Vector} {R : ℕ} {v : Levels} {looks : ℕ} {w : Walked} (h : Walks look q s R v looks w) where
+  pub rounded-ended : {m : Triangle} {n k : ℕ} {r : Pick} → w ≡ WalkEnded m n k → Ended s q R v m n k r → Rounded look s q R v looks r
+  rounded-ended e g = record { gives = rounds-ended look s q R v looks (rw e at (h .gives)) (g .gives) }
 
-  pub rounded-refused : {r : Refused} → w ≡ WalkRefused r → Rounded look s q R looks (IsRefused r)
-  rounded-refused e = record { gives = rounds-refused look s q R looks (rw e at (h .gives)) }
+  pub rounded-refused : {r : Refused} → w ≡ WalkRefused r → Rounded look s q R v looks (IsRefused r)
+  rounded-refused e = record { gives = rounds-refused look s q R v looks (rw e at (h .gives)) }
 
 module _ {look : Vector → Look} {s p q : Vector} {R : ℕ} {b : Start} (h : Started look q s R p b) where
-  pub begun-rounds : {n : ℕ} {r : Pick} → b ≡ StartBegun n → Rounded look s q R n r → Begun look s p q R r
+  pub begun-rounds : {v : Levels} {n : ℕ} {r : Pick} → b ≡ StartBegun v n → Rounded look s q R v n r → Begun look s p q R r
   begun-rounds e g = record { gives = begun-on look s p q R (rw e at (h .gives)) (g .gives) }
 
   pub begun-no : {r : Refused} → b ≡ StartRefused r → Begun look s p q R (IsRefused r)
@@ -154,7 +156,7 @@ module _ {solid : Solid} {bytes : List ℕ} (ok : Permitted solid bytes) {p : Ve
 pub ruleset answering = (ended-accepted, ended-refused, rounded-ended, rounded-refused, begun-rounds, begun-no, placed-outside, placed-apex-outside, placed-begun)
 
 -- ---- the whole pick, of the numbers as they were read
-module _ {solid : Solid} {bytes : List ℕ} {p : Vector} {frame reach : ℤ} {a : Bool} (ha : a ≡ between (pos 3) reach (pos 256)) where
+module _ {solid : Solid} {bytes : List ℕ} {p : Vector} {frame reach : ℤ} {a : Bool} (ha : a ≡ between (pos 1) reach (pos 256)) where
   pub picked-reach : {r : Refused} → a ≡ false → r ≡ refusalOf 1 origin 0 0 → Picked solid bytes p frame reach (IsRefused r)
   unfolding pickOf
   picked-reach e f = record { is = is-answer _ (rw f (reach-refused (permitted solid bytes) (look solid bytes) p frame reach (sym ha ∙ e))) }

@@ -1,10 +1,16 @@
--- The normal of a sound triangle: its size, and its sum as it is computed.
+-- The normal of a sound triangle: its size, its sum as it is computed, and its level parts.
 use mathlib.Core.Path.{_≡_, _∙_}
+use mathlib.Core.Bool.{Bool, true, false}
+use Prim.Native.Nat.{ℕ}
+use native.Mathlib.Omega.{arith}
 use lib.Dec.{lit≤}
+use lib.IntN.{ℤ}
+use Rattle.integers.specs.Sizes.{Within}
 use Rattle.rules.specs.declared.Vector.{Vector}
+use Rattle.rules.specs.declared.Levels.{Levels}
 use Rattle.rules.specs.declared.Triangle.{Triangle}
 use Rattle.rules.specs.Vectors.{_⊕_, cross}
-use Rattle.rules.specs.Walk.{normal}
+use Rattle.rules.specs.Walk.{unlessLevel, levelled, normal}
 use Rattle.laws.specs.Ranges.{Bounded}
 use Rattle.space.specs.Bounds.{bounded-is, bounded-wider, bounded-sum, bounded-cross}
 use Rattle.round.specs.Round.{Sound}
@@ -22,7 +28,23 @@ module _ (m : Triangle) {a b c : Vector} (ea : a ≡ cross (m .m0) (m .m1)) (eb 
     three-fit ed =
         (bounded-is (ed ∙ (λ i. ea i ⊕ eb i)) (bounded-wider (bounded-sum (bounded-cross (h .in0) (h .in1)) (bounded-cross (h .in1) (h .in2))) (lit≤ tt)), bounded-is ec (bounded-wider (bounded-cross (h .in2) (h .in0)) (lit≤ tt)))
 
-pub normal-bounded : {m : Triangle} → Sound m → Bounded 1000000000 (normal m)
+normal-bounded : {m : Triangle} → Sound m → Bounded 1000000000 (normal m)
 unfolding normal
 normal-bounded h =
     bounded-wider (bounded-sum (bounded-sum (bounded-cross (h .in0) (h .in1)) (bounded-cross (h .in1) (h .in2))) (bounded-cross (h .in2) (h .in0))) (lit≤ tt)
+
+-- with 0 for the parts of level axes
+part-bounded : (b : Bool) {k : ℕ} {z : ℤ} → Within k z → Within k (unlessLevel b z)
+part-bounded true h = record { size = omega arith }
+part-bounded false h = h
+
+levelled-bounded : (v : Levels) {k : ℕ} {n : Vector} → Bounded k n → Bounded k (levelled v n)
+unfolding levelled
+levelled-bounded v h = record { in-x = part-bounded (v .x) (h .in-x); in-y = part-bounded (v .y) (h .in-y); in-z = part-bounded (v .z) (h .in-z) }
+
+-- as it is computed
+pub whole-fits : {m : Triangle} {whole : Vector} → Sound m → whole ≡ normal m → Bounded 1000000000 whole
+whole-fits h e = bounded-is e (normal-bounded h)
+
+pub levelled-fits : (v : Levels) {m : Triangle} {whole n : Vector} → Sound m → whole ≡ normal m → n ≡ levelled v whole → Bounded 1000000000 n
+levelled-fits v h e f = bounded-is f (levelled-bounded v (whole-fits h e))

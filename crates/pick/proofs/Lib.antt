@@ -1,7 +1,5 @@
--- The frame, the axes, the start and the answer, question by question.
+-- The frame, the end and the answer, question by question.
 pub mod Frames
-pub mod Axes
-pub mod Starts
 pub mod Ends
 pub mod Ranges
 pub mod Answers

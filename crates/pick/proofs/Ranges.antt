@@ -1,4 +1,4 @@
--- A number from low to high, both natural: it may be cast, and the cast keeps it between them.
+-- A number from low to high, both natural: it may be cast, and the cast is at most high.
 use mathlib.Core.Path.{_≡_}
 use mathlib.Core.Bool.{true}
 use Prim.Native.Nat.{ℕ, _≤_}
@@ -14,11 +14,10 @@ use Rattle.laws.specs.Boxes.{between-yes}
 
 pub record Range (low high : ℕ) (z : ℤ) : Type 0 where
   pub natural : T (nonNeg z)
-  pub at-least : low ≤ natAbs z
   pub at-most : natAbs z ≤ high
 
 pub range : (low high : ℕ) (z : ℤ) → between (pos low) z (pos high) ≡ true → Range low high z
-range low high (pos n) e = let h = between-yes (pos low) (pos n) (pos high) (rw e tt) in record { natural = tt; at-least = omega (arith, parts); at-most = omega (arith, parts) }
+range low high (pos n) e = let h = between-yes (pos low) (pos n) (pos high) (rw e tt) in record { natural = tt; at-most = omega (arith, parts) }
 range low high (negsuc n) e = let h = between-yes (pos low) (negsuc n) (pos high) (rw e tt) in absurd (omega (arith, parts))
 
 pub range-fits : {low high : ℕ} {z : ℤ} → Range low high z → high ≤ 256 → T (nonNeg z) × Fits w32 (natAbs z)

@@ -13,7 +13,7 @@ use Rattle.rules.specs.declared.Pick.the-variants.{Accepted, Refused}
 use Rattle.rules.specs.Vectors.{vector, _⊕_, _⊖_, minus, scale, dot, cross, det, sphere, lay, size, origin}
 use Rattle.rules.specs.Solids.{between, permittedWedge, filledWedge, inBox, look}
 use Rattle.rules.specs.Asked.{after, _>>=_}
-use Rattle.rules.specs.Walk.{ensure, sign, signs, seen, asked, powersFrom, powers, units, normal, determinant, inside, anyInside, firstFree, choice, keep, lookAt, falls, axes, falling, round, walk, found, start, rounds}
+use Rattle.rules.specs.Walk.{ensure, sign, signs, seen, asked, powersFrom, powers, units, allLevel, keep, only, remaining, takesPart, levelled, normal, determinant, inside, anyInside, firstFree, choice, lookAt, falls, isLevel, axes, falling, round, walk, found, start, rounds}
 use Rattle.rules.specs.Pick.{isInside, pick, answer, pickOf, WedgePromise}
 
 abbrev pub normalOf : Pick → Vector
@@ -42,12 +42,22 @@ w8 = wedge (negsuc 0) (pos 2) (pos 5) (pos 608)
 abbrev turned : Wedge
 turned = wedge (pos 5) (pos 2) (pos 1) (pos 808)
 
+-- W4
+abbrev w4 : Wedge
+w4 = wedge (pos 1) (pos 1) (pos 1) (pos 303)
+
+-- 0 -1 2 101 100 100 100 0 8: axis 0 is level, and axis 1's opposite falls
+abbrev opposing : Wedge
+opposing = wedge (pos 0) (negsuc 0) (pos 2) (pos 101)
+
 evaluated :
     (normalOf (pickOf (IsWedge w8) [] place (pos 1) (pos 8)) ≡ vector (negsuc 0) (pos 2) (pos 5))
     × (normal (triangleOf (pickOf (IsWedge w8) [] place (pos 1) (pos 8))) ≡ vector (pos 1) (negsuc 1) (negsuc 4))
     × (looksOf (pickOf (IsWedge turned) [] place (pos 0) (pos 8)) ≡ 95)
-unfolding _⊕_ _⊖_ minus scale dot cross det sphere lay size between permittedWedge filledWedge inBox look after _>>=_ ensure sign signs seen asked powersFrom powers normal determinant inside anyInside firstFree choice keep lookAt falls axes falling round walk found start rounds isInside pick answer pickOf
-evaluated = (refl, refl, refl)
+    × (looksOf (pickOf (IsWedge w4) [] place (pos 0) (pos 3)) ≡ 23)
+    × (looksOf (pickOf (IsWedge opposing) [] place (pos 0) (pos 8)) ≡ 15)
+unfolding _⊕_ _⊖_ minus scale dot cross det sphere lay size between permittedWedge filledWedge inBox look after _>>=_ ensure sign signs seen asked powersFrom powers allLevel keep only remaining takesPart levelled normal determinant inside anyInside firstFree choice lookAt falls isLevel axes falling round walk found start rounds isInside pick answer pickOf
+evaluated = (refl, refl, refl, refl, refl)
 
 -- the normal is not the sum of the cross products of the laid-in vectors: that one points inward
 pub not-of-laid-in-vectors : {r : Pick} → WedgePromise w8 place (pos 1) (pos 8) r → normalOf r ≡ normal (triangleOf r) → ⊥
@@ -59,3 +69,11 @@ not-of-laid-in-vectors h e =
 -- all pairs are asked, even after an opposite has fallen
 pub all-pairs-asked : {r : Pick} → WedgePromise turned place (pos 0) (pos 8) r → looksOf r ≡ 95
 all-pairs-asked h = ap looksOf (h .is) ∙ evaluated .2
+
+-- an opposite is asked only if minus the unit vector does not fall: nine looks more otherwise
+pub opposite-if-kept : {r : Pick} → WedgePromise w4 place (pos 0) (pos 3) r → looksOf r ≡ 23
+opposite-if-kept h = ap looksOf (h .is) ∙ evaluated .3
+
+-- and before the next axis: one look more if minus every unit vector were asked first
+pub opposite-at-once : {r : Pick} → WedgePromise opposing place (pos 0) (pos 8) r → looksOf r ≡ 15
+opposite-at-once h = ap looksOf (h .is) ∙ evaluated .4

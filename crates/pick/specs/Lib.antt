@@ -1,5 +1,4 @@
--- What the start and the pick promise.
-pub mod Start
+-- What the pick promises.
 pub mod Pick
 pub mod Promises
 pub mod Excluded

@@ -7,13 +7,14 @@ use lib.IntN.{ℤ}
 use Rattle.rules.specs.declared.Vector.{Vector}
 use Rattle.rules.specs.declared.Solid.{Solid}
 use Rattle.rules.specs.declared.Look.{Look}
+use Rattle.rules.specs.declared.Levels.{Levels}
 use Rattle.rules.specs.declared.Triangle.{Triangle}
 use Rattle.rules.specs.declared.Pick.{Pick}
 use Rattle.rules.specs.declared.Pick.the-variants.{Accepted, Refused}
 use Rattle.rules.specs.Vectors.{_⊕_, lay, size}
 use Rattle.rules.specs.Solids.{look}
 use Rattle.rules.specs.Asked.{Asked, answered, _>>=_, _>>_}
-use Rattle.rules.specs.Walk.{Stop, stop, ensure, signs, triangle, normal, Found, found, start, rounds}
+use Rattle.rules.specs.Walk.{Stop, stop, ensure, signs, triangle, levelled, normal, Found, found, start, rounds}
 use Rattle.rules.specs.Pick.{isInside, pickOf}
 use Rattle.falls.specs.declared.Scene.{Scene}
 use Rattle.falls.specs.Tally.{Tally, yes, Gives}
@@ -27,16 +28,16 @@ abbrev pub layTriangle : Vector → Triangle → Triangle
 layTriangle s m = triangle (lay s (m .m0)) (lay s (m .m1)) (lay s (m .m2))
 
 -- the end of the rounds: refusal 10, or what was found
-unfoldable pub ending : Vector → Vector → ℕ → Triangle × ℕ → Asked Stop Found
-ending s q R e = do
-  ensure (leb (size (normal (e .0))) R) (stop 10 q (e .1))
-  answered (found s q e) []
+unfoldable pub ending : Vector → Vector → ℕ → Levels → Triangle × ℕ → Asked Stop Found
+ending s q R v e = do
+  ensure (leb (size (levelled v (normal (e .0)))) R) (stop 10 q (e .1))
+  answered (found s q v e) []
 
 -- the pick from the first look on
 unfoldable pub beginning : (Vector → Look) → Vector → Vector → Vector → ℕ → Asked Stop Found
 beginning look s p q R = do
-  start look s p q R
-  rounds look s q R
+  v ← start look s p q R
+  rounds look s q R v
 
 -- the pick from refusal 4 on
 unfoldable pub placing : (Vector → Look) → Vector → Vector → Vector → ℕ → Asked Stop Found
@@ -45,11 +46,11 @@ placing look s p q R = do
   ensure (isInside (look q)) (stop 4 q 0)
   beginning look s p q R
 
-pub record Ended (s q : Vector) (R : ℕ) (m : Triangle) (steps looks : ℕ) (r : Pick) : Type 0 where
-  pub gives : Gives looks (ending s q R (m, steps)) (told r)
+pub record Ended (s q : Vector) (R : ℕ) (v : Levels) (m : Triangle) (steps looks : ℕ) (r : Pick) : Type 0 where
+  pub gives : Gives looks (ending s q R v (m, steps)) (told r)
 
-pub record Rounded (look : Vector → Look) (s q : Vector) (R looks : ℕ) (r : Pick) : Type 0 where
-  pub gives : Gives looks (rounds look s q R) (told r)
+pub record Rounded (look : Vector → Look) (s q : Vector) (R : ℕ) (v : Levels) (looks : ℕ) (r : Pick) : Type 0 where
+  pub gives : Gives looks (rounds look s q R v) (told r)
 
 pub record Begun (look : Vector → Look) (s p q : Vector) (R : ℕ) (r : Pick) : Type 0 where
   pub gives : Gives 0 (beginning look s p q R) (told r)
@@ -61,11 +62,11 @@ pub record Picked (solid : Solid) (bytes : List ℕ) (p : Vector) (frame reach :
   pub is : r ≡ pickOf solid bytes p frame reach
 
 -- in a scene, with the bytes lent
-abbrev pub EndedIn : Scene → Triangle → ℕ → ℕ → Pick → Type 0
-EndedIn v m steps looks r = Ended (v .signs) (v .apex) (v .reach) m steps looks r
+abbrev pub EndedIn : Scene → Levels → Triangle → ℕ → ℕ → Pick → Type 0
+EndedIn v level m steps looks r = Ended (v .signs) (v .apex) (v .reach) level m steps looks r
 
-abbrev pub RoundedIn : Scene → List ℕ → ℕ → Pick → Type 0
-RoundedIn v bytes looks r = Rounded (look (v .solid) bytes) (v .signs) (v .apex) (v .reach) looks r
+abbrev pub RoundedIn : Scene → List ℕ → Levels → ℕ → Pick → Type 0
+RoundedIn v bytes level looks r = Rounded (look (v .solid) bytes) (v .signs) (v .apex) (v .reach) level looks r
 
 abbrev pub BegunIn : Scene → List ℕ → Vector → Pick → Type 0
 BegunIn v bytes p r = Begun (look (v .solid) bytes) (v .signs) p (v .apex) (v .reach) r

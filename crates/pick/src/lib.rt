@@ -1,33 +1,25 @@
 // The pick: what is refused, in order, and the walk.
 ghost use mathlib.Core.Path.{_≡_};
 ghost use Prim.Native.Nat.{_≤_};
-ghost use Rattle.rules.specs.Walk.{sign, signs, normal};
+ghost use Rattle.rules.specs.Walk.{sign, signs, unlessLevel, levelled, normal};
 ghost use Rattle.rules.specs.Pick.{WedgePromise, StackPromise};
 ghost use Rattle.laws.specs.Ranges.{Bounded};
 ghost use Rattle.solid.specs.Asks.{Permitted};
 ghost use Rattle.laws.specs.Frames.{Signs};
 ghost use Rattle.falls.specs.Scene.{Ready};
 ghost use Rattle.round.specs.Round.{Sound};
-ghost use Rattle.pick.specs.Start.{looksOf, AxisAskedIn, AxesAskedIn, StartedIn};
 ghost use Rattle.pick.specs.Pick.{layTriangle, EndedIn, RoundedIn, BegunIn, Placed, Picked};
-use falls::Falls;
 use falls::Scene;
 use rules::Accepted;
-use rules::Look;
+use rules::Levels;
 use rules::Pick;
-use rules::Refused;
 use rules::Solid;
 use rules::Stack;
 use rules::Triangle;
 use rules::Vector;
 use rules::Wedge;
+use start::Start;
 use walk::Walked;
-
-// p is filled and q is not, and every axis asked so far falls, after so many looks; or a refusal.
-pub enum Start {
-    Begun(u32),
-    Refused(Refused),
-}
 
 // ---- frames
 
@@ -44,61 +36,6 @@ fn signs_of(frame: u32) -> Vector
     let y = sign_of(frame / 2 % 2);
     let z = sign_of(frame / 4 % 2);
     Vector { x: x, y: y, z: z }
-}
-
-// ---- the start
-
-// One axis more.
-fn ask_axis(scene: Scene, bytes: &[u8], e: Vector, sofar: Start) -> Start
-    requires { ⌜ Ready scene (now bytes) × Bounded 1 e × (looksOf sofar ≤ 1500) ⌝ }
-    ensures { λ r. ⌜ AxisAskedIn scene (now (bytes .entry)) e sofar r ⌝ }
-{
-    match sofar {
-        Start::Refused(r) => Start::Refused(r),
-        Start::Begun(n) => {
-            let s = scene.signs;
-            let q = scene.apex;
-            let u = space::lay(s, space::negate(e));
-            let f = falls::ask_falls(scene, bytes, u, n);
-            match f {
-                Falls::Fell(k) => Start::Begun(k),
-                Falls::Kept(k) => Start::Refused(walk::refusal(7, space::add(q, u), 0, k)),
-                Falls::Stopped(p, k) => Start::Refused(walk::refusal(8, p, 0, k)),
-            }
-        }
-    }
-}
-
-fn ask_axes(scene: Scene, bytes: &[u8], looks: u32) -> Start
-    requires { ⌜ Ready scene (now bytes) × (looks ≤ 2) ⌝ }
-    ensures { λ r. ⌜ AxesAskedIn scene (now (bytes .entry)) looks r ⌝ }
-{
-    let begun = Start::Begun(looks);
-    let a = ask_axis(scene, bytes, Vector { x: 1, y: 0, z: 0 }, begun);
-    let b = ask_axis(scene, bytes, Vector { x: 0, y: 1, z: 0 }, a);
-    ask_axis(scene, bytes, Vector { x: 0, y: 0, z: 1 }, b)
-}
-
-// Look at p, then, if p is filled, q; then the axes.
-fn start_at(scene: Scene, bytes: &[u8], p: Vector) -> Start
-    requires { ⌜ Ready scene (now bytes) ⌝ }
-    ensures { λ r. ⌜ StartedIn scene (now (bytes .entry)) p r ⌝ }
-{
-    let solid = scene.solid;
-    let q = scene.apex;
-    let at_start = solid::look_at(solid, bytes, p);
-    match at_start {
-        Look::Outside => Start::Refused(walk::refusal(8, p, 0, 0)),
-        Look::Empty => Start::Refused(walk::refusal(5, p, 0, 1)),
-        Look::Filled => {
-            let at_apex = solid::look_at(solid, bytes, q);
-            match at_apex {
-                Look::Outside => Start::Refused(walk::refusal(8, q, 0, 1)),
-                Look::Filled => Start::Refused(walk::refusal(6, q, 0, 2)),
-                Look::Empty => ask_axes(scene, bytes, 2),
-            }
-        }
-    }
 }
 
 // ---- the end
@@ -130,15 +67,33 @@ fn lay_triangle(s: Vector, m: Triangle) -> Triangle
     round::make_triangle(a, b, c)
 }
 
+fn unless_level(level: bool, z: i32) -> i32
+    ensures { λ r. ⌜ r ≡ unlessLevel level z ⌝ }
+{
+    if level { 0 } else { z }
+}
+
+// The component of a level axis is 0.
+fn level_out(level: Levels, n: Vector) -> Vector
+    requires { ⌜ Bounded 1000000000 n ⌝ }
+    ensures { λ r. ⌜ r ≡ levelled level n ⌝ }
+{
+    let x = unless_level(level.x, n.x);
+    let y = unless_level(level.y, n.y);
+    let z = unless_level(level.z, n.z);
+    Vector { x: x, y: y, z: z }
+}
+
 // No pair falls.
-fn end_walk(scene: Scene, m: Triangle, steps: u32, looks: u32) -> Pick
+fn end_walk(scene: Scene, level: Levels, m: Triangle, steps: u32, looks: u32) -> Pick
     requires { ⌜ Sound m × Signs (scene .signs) ⌝ }
-    ensures { λ r. ⌜ EndedIn scene m steps looks r ⌝ }
+    ensures { λ r. ⌜ EndedIn scene level m steps looks r ⌝ }
 {
     let s = scene.signs;
     let q = scene.apex;
     let reach = scene.reach;
-    let n = normal_of(m);
+    let whole = normal_of(m);
+    let n = level_out(level, whole);
     let sum = space::size(n);
     if sum <= reach {
         let laid = space::lay(s, n);
@@ -155,13 +110,14 @@ fn end_walk(scene: Scene, m: Triangle, steps: u32, looks: u32) -> Pick
     }
 }
 
-fn ask_rounds(scene: Scene, bytes: &[u8], looks: u32) -> Pick
-    requires { ⌜ Ready scene (now bytes) × (looks ≤ 2000) ⌝ }
-    ensures { λ r. ⌜ RoundedIn scene (now (bytes .entry)) looks r ⌝ }
+// From a start with these level axes, after so many looks.
+fn ask_rounds(scene: Scene, bytes: &[u8], level: Levels, looks: u32) -> Pick
+    requires { ⌜ Ready scene (now bytes) × (looks ≤ 4000) ⌝ }
+    ensures { λ r. ⌜ RoundedIn scene (now (bytes .entry)) level looks r ⌝ }
 {
-    let w = walk::walk_on(scene, bytes, looks);
+    let w = walk::walk_on(scene, bytes, level, looks);
     match w {
-        Walked::Ended(m, steps, k) => end_walk(scene, m, steps, k),
+        Walked::Ended(m, steps, k) => end_walk(scene, level, m, steps, k),
         Walked::Refused(r) => Pick::Refused(r),
     }
 }
@@ -172,16 +128,16 @@ fn begin(scene: Scene, bytes: &[u8], p: Vector) -> Pick
     requires { ⌜ Ready scene (now bytes) ⌝ }
     ensures { λ r. ⌜ BegunIn scene (now (bytes .entry)) p r ⌝ }
 {
-    let b = start_at(scene, bytes, p);
+    let b = start::start_at(scene, bytes, p);
     match b {
-        Start::Begun(n) => ask_rounds(scene, bytes, n),
+        Start::Begun(level, n) => ask_rounds(scene, bytes, level, n),
         Start::Refused(r) => Pick::Refused(r),
     }
 }
 
 // p is judged before q is formed.
 fn place(solid: Solid, bytes: &[u8], p: Vector, frame: u32, reach: u32) -> Pick
-    requires { ⌜ Permitted solid (now bytes) × (3 ≤ reach) × (reach ≤ 256) ⌝ }
+    requires { ⌜ Permitted solid (now bytes) × (reach ≤ 256) ⌝ }
     ensures { λ r. ⌜ Placed solid (now (bytes .entry)) p frame reach r ⌝ }
 {
     if solid::is_inside(solid, p) {
@@ -207,7 +163,7 @@ fn pick_solid(solid: Solid, bytes: &[u8], p: Vector, frame: i32, reach: i32) -> 
     ensures { λ r. ⌜ Picked solid (now (bytes .entry)) p frame reach r ⌝ }
 {
     let origin = Vector { x: 0, y: 0, z: 0 };
-    if solid::is_between(3, reach, 256) {
+    if solid::is_between(1, reach, 256) {
         if solid::is_between(0, frame, 7) {
             if solid::is_permitted(solid, bytes) {
                 place(solid, bytes, p, frame as u32, reach as u32)

@@ -1,5 +1,6 @@
-// Document 01's listed cases of a pick, run through the proved code, a line each, in the form of the wedge program:
-// "N", normal, steps, looks; or "R", number, place, steps, looks. `stdout` has what the document says; the looks that it leaves open (59, 178, 71) are the second program's.
+// Document 01's listed cases of a pick and those of its request 2026-01 in document 02, run through the proved code, a line each, in the form of the wedge program:
+// "N", normal, steps, looks; or "R", number, place, steps, looks; and after "T" the triangle, where it is asked. `stdout` has what the documents say;
+// what they leave open (the looks 59, 178, 71, and level faces but W6 and the limits of the reach) is the second program's.
 use rules::Pick;
 use rules::Stack;
 use rules::Vector;
@@ -49,7 +50,17 @@ fn at(n: i32) -> Vector {
     Vector { x: n, y: n, z: n }
 }
 
-// R = 2 and 257 give 1; 3 and 256 pass. Frame 8 gives 2. p = (1023,5,5) in frame 0 gives 4 with (1024,6,6).
+fn show_wedge(a: i32, b: i32, c: i32, h: i32, reach: i32) {
+    let w = Wedge {
+        a: a,
+        b: b,
+        c: c,
+        h: h,
+    };
+    show(pick::pick_wedge(w, at(100), 0, reach));
+}
+
+// R = 0 and 257 give 1; 1 and 256 pass. Frame 8 gives 2. p = (1023,5,5) in frame 0 gives 4 with (1024,6,6).
 fn show_limits() {
     let w = Wedge {
         a: 1,
@@ -57,8 +68,10 @@ fn show_limits() {
         c: 1,
         h: 303,
     };
-    show(pick::pick_wedge(w, at(100), 0, 2));
+    show(pick::pick_wedge(w, at(100), 0, 0));
     show(pick::pick_wedge(w, at(100), 0, 257));
+    show_wedge(0, 0, 1, 101, 1);
+    show(pick::pick_wedge(w, at(100), 0, 2));
     show(pick::pick_wedge(w, at(100), 0, 3));
     let far = Wedge {
         a: 1,
@@ -76,14 +89,92 @@ fn show_limits() {
     show(pick::pick_wedge(w, edge, 0, 3));
 }
 
-fn show_wedge(a: i32, b: i32, c: i32, h: i32, reach: i32) {
+// ---- level faces
+
+fn show_triangle(r: Pick) {
+    show(r);
+    match r {
+        Pick::Accepted(a) => {
+            let m = a.triangle;
+            io::write_all(1, b"T");
+            put_place(m.m0);
+            put_place(m.m1);
+            put_place(m.m2);
+            io::write_all(1, b"\n");
+        }
+        Pick::Refused(_) => {}
+    }
+}
+
+// One axis is level, or two, or all three; an opposite falls; a point outside; a common divisor; the reach is too small.
+fn show_level_wedges() {
+    // W6.
+    show_wedge(0, 1, 1, 202, 8);
+    show_wedge(0, 1, 1, 202, 2);
+    show_wedge(0, 1, 1, 202, 1);
+    show_wedge(0, 2, 5, 707, 7);
+    show_wedge(0, 2, 5, 707, 6);
+    // Axis 1's opposite falls.
+    show_wedge(0, -1, 2, 101, 8);
+    show_wedge(1, 1, 1, 301, 1);
+    // As many looks as there can be with two remaining axes.
+    show_wedge(0, 1, 1, 201, 2);
+    show_wedge(2, 4, 0, 601, 3);
     let w = Wedge {
-        a: a,
-        b: b,
-        c: c,
-        h: h,
+        a: 0,
+        b: 1,
+        c: 1,
+        h: 202,
     };
-    show(pick::pick_wedge(w, at(100), 0, reach));
+    let near = Vector {
+        x: 0,
+        y: 100,
+        z: 100,
+    };
+    show(pick::pick_wedge(w, near, 0, 8));
+}
+
+// A level axis's vector stays the unit vector, laid in: it has the frame's sign.
+fn show_level_triangles() {
+    let w = Wedge {
+        a: 5,
+        b: 0,
+        c: 3,
+        h: 808,
+    };
+    show_triangle(pick::pick_wedge(w, at(100), 0, 8));
+    let against = Wedge {
+        a: -3,
+        b: 0,
+        c: 5,
+        h: 202,
+    };
+    show_triangle(pick::pick_wedge(against, at(100), 1, 8));
+    show_triangle(pick::pick_wedge(against, at(100), 3, 8));
+}
+
+fn show_small(bytes: &[u8; 64], reach: i32) {
+    let k = Stack {
+        width: 8,
+        height: 8,
+        depth: 8,
+    };
+    show(pick::pick_stack(k, bytes, at(3), 0, reach));
+}
+
+// 8 a side, p = (3,3,3). Filled only: p; p and (5,4,4); p, (4,4,3) and (4,3,4).
+fn show_small_stacks() {
+    let mut bytes = [0u8; 64];
+    bytes[3 * 8 + 3] = 16;
+    show_small(&bytes, 1);
+    show_small(&bytes, 2);
+    show_small(&bytes, 3);
+    bytes[4 * 8 + 4] = 4;
+    show_small(&bytes, 2);
+    bytes[4 * 8 + 4] = 0;
+    bytes[3 * 8 + 4] = 8;
+    bytes[4 * 8 + 3] = 8;
+    show_small(&bytes, 2);
 }
 
 // 64 a side, q = (32,32,32), and filled only: q plus (-1,-1,-1), (-1,0,0), (0,-1,0), (0,0,-1), (-1,1,0), (1,-2,0).
@@ -114,4 +205,7 @@ fn main() {
     // As many looks as there can be.
     show_wedge(1, 1, 1, 301, 3);
     show_stack();
+    show_level_wedges();
+    show_level_triangles();
+    show_small_stacks();
 }

@@ -7,6 +7,7 @@ use lib.IntN.{pos}
 use lib.Signed.{ltZ}
 use Rattle.rules.specs.declared.Vector.{Vector}
 use Rattle.rules.specs.declared.Look.{Look}
+use Rattle.rules.specs.declared.Levels.{Levels}
 use Rattle.rules.specs.declared.Triangle.{Triangle}
 use Rattle.rules.specs.declared.Pair.{Pair}
 use Rattle.rules.specs.declared.Pair.the-variants.{P01, P02, P10, P12, P20, P21}
@@ -15,7 +16,7 @@ use Rattle.rules.specs.declared.Choice.the-variants.{Nothing, Chosen}
 use Rattle.rules.specs.Vectors.{_⊕_, _⊖_, sphere}
 use Rattle.rules.specs.Solids.{look}
 use Rattle.rules.specs.Asked.{Asked, answered, _>>=_}
-use Rattle.rules.specs.Walk.{way, powers, falling, round}
+use Rattle.rules.specs.Walk.{pairs, only, takesPart, way, powers, falling, round}
 use Rattle.laws.specs.Triples.{detOf}
 use Rattle.laws.specs.Choosing.{better, best}
 use Rattle.laws.specs.Ranges.{Bounded}
@@ -74,30 +75,44 @@ after P12 = Chosen P20
 after P20 = Chosen P21
 after P21 = Nothing
 
-module _ (look : Vector → Look) (q s : Vector) (reach : ℕ) (m : Triangle) where
-  -- the pairs that are left, after those of which c is the best
-  unfoldable pub remaining : List Pair → Choice → Asked Vector Choice
-  remaining ps c = falling look q s (powers reach) m ps >>= λ fs. answered (best m c fs) []
+-- the pairs that take part
+abbrev pub taking : Levels → List Pair → List Pair
+taking level ps = only (takesPart level) ps
 
-  -- what the rest of the round gives
+module _ (look : Vector → Look) (q s : Vector) (reach : ℕ) (m : Triangle) where
+  -- the pairs ps, after those of which c is the best
+  unfoldable pub weighing : List Pair → Choice → Asked Vector Choice
+  weighing ps c = falling look q s (powers reach) m ps >>= λ fs. answered (best m c fs) []
+
+  -- what the rest of the round, the pairs ps, gives
   abbrev pub rest : List Pair → Tally Vector Choice → Tally Vector Choice
-  rest ps (yes c n) = tally n (remaining ps c)
+  rest ps (yes c n) = tally n (weighing ps c)
   rest ps (no p n) = no p n
 
-  -- with the pair x asked, the rest gives what it gave from before
-  pub record PairAsked (x : Pair) (before r : Round) : Type 0 where
-    pub is : (ps : List Pair) → rest ps (told r) ≡ rest (x ∷ ps) (told before)
+  -- with the pair x asked, when k was the best and n looks were made, the rest gives what it gave from before
+  pub record WayAsked (x : Pair) (k : Best) (n : ℕ) (r : Round) : Type 0 where
+    pub is : (ps : List Pair) → rest ps (told r) ≡ rest (x ∷ ps) (yes (k .choice) n)
     pub weighed : Weighed m r
-    pub few : looksOf r ≤ looksOf before + 512
+    pub few : looksOf r ≤ n + 512
 
-  pub record RoundAsked (looks : ℕ) (r : Round) : Type 0 where
-    pub gives : Gives looks (round look q s (powers reach) m) (told r)
-    pub weighed : Weighed m r
-    pub few : looksOf r ≤ looks + 3072
+  module _ (level : Levels) where
+    -- the same, with the pair x asked if it takes part
+    pub record PairAsked (x : Pair) (before r : Round) : Type 0 where
+      pub is : (ps : List Pair) → rest (taking level ps) (told r) ≡ rest (taking level (x ∷ ps)) (told before)
+      pub weighed : Weighed m r
+      pub few : looksOf r ≤ looksOf before + 512
+
+    pub record RoundAsked (looks : ℕ) (r : Round) : Type 0 where
+      pub gives : Gives looks (round look q s (powers reach) (taking level pairs) m) (told r)
+      pub weighed : Weighed m r
+      pub few : looksOf r ≤ looks + 3072
 
 -- in a scene, with the bytes lent
-abbrev pub PairAskedIn : Scene → List ℕ → Triangle → Pair → Round → Round → Type 0
-PairAskedIn v bytes m x before r = PairAsked (look (v .solid) bytes) (v .apex) (v .signs) (v .reach) m x before r
+abbrev pub WayAskedIn : Scene → List ℕ → Triangle → Pair → Best → ℕ → Round → Type 0
+WayAskedIn v bytes m x k n r = WayAsked (look (v .solid) bytes) (v .apex) (v .signs) (v .reach) m x k n r
 
-abbrev pub RoundAskedIn : Scene → List ℕ → Triangle → ℕ → Round → Type 0
-RoundAskedIn v bytes m looks r = RoundAsked (look (v .solid) bytes) (v .apex) (v .signs) (v .reach) m looks r
+abbrev pub PairAskedIn : Scene → List ℕ → Levels → Triangle → Pair → Round → Round → Type 0
+PairAskedIn v bytes level m x before r = PairAsked (look (v .solid) bytes) (v .apex) (v .signs) (v .reach) m level x before r
+
+abbrev pub RoundAskedIn : Scene → List ℕ → Levels → Triangle → ℕ → Round → Type 0
+RoundAskedIn v bytes level m looks r = RoundAsked (look (v .solid) bytes) (v .apex) (v .signs) (v .reach) m level looks r

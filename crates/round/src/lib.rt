@@ -1,13 +1,14 @@
-// One round: the six pairs, and the choice.
+// One round: the pairs that take part, and the choice.
 ghost use mathlib.Core.Path.{_≡_};
 ghost use Prim.Native.Nat.{_≤_};
-ghost use Rattle.rules.specs.Walk.{triangle, first, second, way, with, step};
+ghost use Rattle.rules.specs.Walk.{takesPart, triangle, first, second, way, with, step};
 ghost use Rattle.laws.specs.Ranges.{Bounded};
 ghost use Rattle.falls.specs.Scene.{Ready};
-ghost use Rattle.round.specs.Round.{Sound, nearer, Weighs, Weighed, Preferred, after, looksOf, PairAskedIn, RoundAskedIn};
+ghost use Rattle.round.specs.Round.{Sound, nearer, Weighs, Weighed, Preferred, after, looksOf, WayAskedIn, PairAskedIn, RoundAskedIn};
 use falls::Falls;
 use falls::Scene;
 use rules::Choice;
+use rules::Levels;
 use rules::Pair;
 use rules::Triangle;
 use rules::Vector;
@@ -98,6 +99,23 @@ pub fn step_by(m: Triangle, x: Pair) -> Triangle
     replace(m, x, a)
 }
 
+// A level axis takes no part in the pairs.
+fn takes_part(level: Levels, x: Pair) -> bool
+    ensures { λ r. ⌜ r ≡ takesPart level x ⌝ }
+{
+    let a = level.x;
+    let b = level.y;
+    let c = level.z;
+    match x {
+        Pair::P01 => !a & !b,
+        Pair::P02 => !a & !c,
+        Pair::P10 => !b & !a,
+        Pair::P12 => !b & !c,
+        Pair::P20 => !c & !a,
+        Pair::P21 => !c & !b,
+    }
+}
+
 // ---- the choice
 
 // Whether the candidate of the row e is strictly inside the sphere through the triangle and the candidate of the row c.
@@ -139,22 +157,34 @@ fn prefer(m: Triangle, sofar: Best, y: Pair, w: Vector) -> Best
 
 // ---- the round
 
-// One pair more.
-fn ask_pair(scene: Scene, bytes: &[u8], m: Triangle, x: Pair, sofar: Round) -> Round
+// A pair that takes part, after those of which `best` is the best.
+fn ask_way(scene: Scene, bytes: &[u8], m: Triangle, x: Pair, best: Best, looks: u32) -> Round
+    requires { ⌜ Ready scene (now bytes) × Sound m × Weighs m (best .choice) (best .row) × (looks ≤ 1500000) ⌝ }
+    ensures { λ r. ⌜ WayAskedIn scene (now (bytes .entry)) m x best looks r ⌝ }
+{
+    let s = scene.signs;
+    let w = way_of(m, x);
+    let u = space::lay(s, w);
+    let f = falls::ask_falls(scene, bytes, u, looks);
+    match f {
+        Falls::Fell(n) => Round::Asked(prefer(m, best, x, w), n),
+        Falls::Kept(n) => Round::Asked(best, n),
+        Falls::Stopped(p, n) => Round::Stopped(p, n),
+    }
+}
+
+// One pair more, asked if it takes part.
+fn ask_pair(scene: Scene, bytes: &[u8], level: Levels, m: Triangle, x: Pair, sofar: Round) -> Round
     requires { ⌜ Ready scene (now bytes) × Sound m × Weighed m sofar × (looksOf sofar ≤ 1500000) ⌝ }
-    ensures { λ r. ⌜ PairAskedIn scene (now (bytes .entry)) m x sofar r ⌝ }
+    ensures { λ r. ⌜ PairAskedIn scene (now (bytes .entry)) level m x sofar r ⌝ }
 {
     match sofar {
         Round::Stopped(p, n) => Round::Stopped(p, n),
         Round::Asked(best, n) => {
-            let s = scene.signs;
-            let w = way_of(m, x);
-            let u = space::lay(s, w);
-            let f = falls::ask_falls(scene, bytes, u, n);
-            match f {
-                Falls::Fell(k) => Round::Asked(prefer(m, best, x, w), k),
-                Falls::Kept(k) => Round::Asked(best, k),
-                Falls::Stopped(p, k) => Round::Stopped(p, k),
+            if takes_part(level, x) {
+                ask_way(scene, bytes, m, x, best, n)
+            } else {
+                Round::Asked(best, n)
             }
         }
     }
@@ -174,10 +204,10 @@ fn pair_after(x: Pair) -> Choice
     }
 }
 
-// All six pairs, even after one has fallen. One call in a loop and not six: so the question is compiled in place, which saves about two fifths of a pick's time.
-pub fn ask_round(scene: Scene, bytes: &[u8], m: Triangle, looks: u32) -> Round
+// All pairs that take part, even after one has fallen. One call in a loop and not six: so the question is compiled in place, which saves about two fifths of a pick's time.
+pub fn ask_round(scene: Scene, bytes: &[u8], level: Levels, m: Triangle, looks: u32) -> Round
     requires { ⌜ Ready scene (now bytes) × Sound m × (looks ≤ 1000000) ⌝ }
-    ensures { λ r. ⌜ RoundAskedIn scene (now (bytes .entry)) m looks r ⌝ }
+    ensures { λ r. ⌜ RoundAskedIn scene (now (bytes .entry)) level m looks r ⌝ }
 {
     let m0 = m.m0;
     let none = Best {
@@ -187,7 +217,7 @@ pub fn ask_round(scene: Scene, bytes: &[u8], m: Triangle, looks: u32) -> Round
     let mut x = Pair::P01;
     let mut sofar = Round::Asked(none, looks);
     let end = loop {
-        let r = ask_pair(scene, bytes, m, x, sofar);
+        let r = ask_pair(scene, bytes, level, m, x, sofar);
         let next = pair_after(x);
         match next {
             Choice::Nothing => {

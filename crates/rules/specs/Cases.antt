@@ -18,7 +18,7 @@ use Rattle.rules.specs.declared.Display.the-variants.{Lit}
 use Rattle.rules.specs.Vectors.{vector, _⊕_, _⊖_, minus, scale, dot, cross, det, sphere, lay, size}
 use Rattle.rules.specs.Solids.{between, permittedWedge, filledWedge, inBox, look}
 use Rattle.rules.specs.Asked.{after, _>>=_}
-use Rattle.rules.specs.Walk.{ensure, sign, signs, seen, asked, powersFrom, powers, triangle, normal, determinant, inside, anyInside, firstFree, choice, keep, lookAt, falls, axes, falling, round, walk, found, start, rounds}
+use Rattle.rules.specs.Walk.{ensure, sign, signs, seen, asked, powersFrom, powers, triangle, normal, allLevel, keep, only, remaining, takesPart, levelled, determinant, inside, anyInside, firstFree, choice, lookAt, falls, isLevel, axes, falling, round, walk, found, start, rounds}
 use Rattle.rules.specs.Pick.{isInside, pick, answer, pickOf}
 use Rattle.rules.specs.Decimals.{isDigit, areDigits, value, figure, digits}
 use Rattle.rules.specs.Display.{largest, sizeOf, component, permittedNormal, light, display}
@@ -73,6 +73,16 @@ worked-cases :
     ∷ prints "0 1 1 202 100 100 100 0 8\n"
     ∷ prints "1 1 1 3 0 0 0 0 3\n"
     ∷ prints "-1 2 5 608 100 100 100 1 8\n"
+    ∷ prints "0 1 1 202 100 100 100 0 2\n"
+    ∷ prints "0 1 1 202 100 100 100 0 1\n"
+    ∷ prints "1 1 1 303 100 100 100 0 2\n"
+    ∷ prints "1 1 1 303 100 100 100 0 0\n"
+    ∷ prints "0 0 1 101 100 100 100 0 1\n"
+    ∷ prints "0 2 5 707 100 100 100 0 7\n"
+    ∷ prints "2 4 0 601 100 100 100 0 3\n"
+    ∷ prints "0 -1 2 101 100 100 100 0 8\n"
+    ∷ prints "1 1 1 301 100 100 100 0 1\n"
+    ∷ prints "0 1 1 202 0 100 100 0 8\n"
     ∷ corners "1 2 5 808 100 100 100 0 8"
     ∷ corners "1 2 5 801 100 100 100 0 8"
     ∷ shows (pos 1) (pos 2) (pos 5)
@@ -93,9 +103,19 @@ worked-cases :
     ∷ says "R 9 101 101 101 4 92\n"
     ∷ says "N 1 1 1 0 23\n"
     ∷ says "R 6 2 2 2 0 2\n"
-    ∷ says "R 7 100 101 101 0 6\n"
+    ∷ says "N 0 1 1 0 20\n"
     ∷ says "R 8 -1 3 1 0 6\n"
     ∷ says "N -1 2 5 5 116\n"
+    ∷ says "N 0 1 1 0 12\n"
+    ∷ says "R 10 101 101 101 0 8\n"
+    ∷ says "R 10 101 101 101 0 17\n"
+    ∷ says "R 1 0 0 0 0 0\n"
+    ∷ says "N 0 0 1 0 7\n"
+    ∷ says "N 0 2 5 3 35\n"
+    ∷ says "N 1 2 0 1 25\n"
+    ∷ says "R 7 101 100 101 0 15\n"
+    ∷ says "R 7 100 101 101 0 8\n"
+    ∷ says "R 8 -1 101 101 0 3\n"
     ∷ ends
     ∷ ends
     ∷ over 5982 11965 29912
@@ -111,5 +131,5 @@ worked-cases :
     ∷ says "B\nB\nB\n"
     ∷ says "B\nB\n"
     ∷ []
-unfolding run bytes cornersOf vectorsOf says ends over _⊕_ _⊖_ minus scale dot cross det sphere lay size between permittedWedge filledWedge inBox look after _>>=_ ensure sign signs seen asked powersFrom powers normal determinant inside anyInside firstFree choice keep lookAt falls axes falling round walk found start rounds isInside pick answer pickOf isDigit areDigits value figure digits parts fewDigits within32 signed number next onlyThese question three counts toldAccepted toldRefused told reply replies session largest sizeOf component permittedNormal light display
+unfolding run bytes cornersOf vectorsOf says ends over _⊕_ _⊖_ minus scale dot cross det sphere lay size between permittedWedge filledWedge inBox look after _>>=_ ensure sign signs seen asked powersFrom powers normal allLevel keep only remaining takesPart levelled determinant inside anyInside firstFree choice lookAt falls isLevel axes falling round walk found start rounds isInside pick answer pickOf isDigit areDigits value figure digits parts fewDigits within32 signed number next onlyThese question three counts toldAccepted toldRefused told reply replies session largest sizeOf component permittedNormal light display
 worked-cases = refl

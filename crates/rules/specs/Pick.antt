@@ -1,4 +1,4 @@
--- Document 01, "Refusal numbers, in the order they are judged": the pick, its answer and its promise, for every input.
+-- Document 01, "Refusal numbers, in the order they are judged", with document 02's 2026-01: the pick, its answer and its promise, for every input.
 -- These are definitions: nothing here is proved.
 use mathlib.Core.Path.{_≡_}
 use mathlib.Core.Bool.{Bool, true, false}
@@ -30,13 +30,13 @@ unfoldable pub pick : Bool → (Vector → Look) → Vector → ℤ → ℤ → 
 pick permitted look p frame reach =
     let s = signs (natAbs frame) in
     let q = p ⊕ s in do
-      ensure (between (pos 3) reach (pos 256)) (stop 1 origin 0)
+      ensure (between (pos 1) reach (pos 256)) (stop 1 origin 0)
       ensure (between (pos 0) frame (pos 7)) (stop 2 origin 0)
       ensure permitted (stop 3 origin 0)
       ensure (isInside (look p)) (stop 4 p 0)
       ensure (isInside (look q)) (stop 4 q 0)
-      start look s p q (natAbs reach)
-      rounds look s q (natAbs reach)
+      v ← start look s p q (natAbs reach)
+      rounds look s q (natAbs reach) v
 
 -- the answer's two cases: accepted with its record, or refused with number, place and counts
 unfoldable pub answer : Asked Stop Found → Pick

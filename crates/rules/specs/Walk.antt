@@ -1,14 +1,16 @@
--- Document 01, "The probing walk", in its order and words, over any solid: the walk knows a solid by its look alone.
+-- Document 01, "The probing walk", in its order and words, with document 02's level faces (2026-01), over any solid: the walk knows a solid by its look alone.
 -- These are definitions: nothing here is proved.
-use mathlib.Core.Bool.{Bool, true, false, not, _||_}
+use mathlib.Core.Bool.{Bool, true, false, not, _&&_, _||_}
 use mathlib.Core.List.{List, [], _∷_}
 use Prim.Native.Nat.{ℕ, zero, suc, _+_, _-_, _/_, _%_}
 use lib.IntN.{ℤ, pos, negsuc}
 use lib.Signed.{ltZ}
 use lib.Dec.{leb}
+use lib.ListN.{length}
 use Rattle.rules.specs.declared.Vector.{Vector}
 use Rattle.rules.specs.declared.Look.{Look}
 use Rattle.rules.specs.declared.Look.the-variants.{Filled, Empty, Outside}
+use Rattle.rules.specs.declared.Levels.{Levels}
 use Rattle.rules.specs.declared.Triangle.{Triangle}
 use Rattle.rules.specs.declared.Pair.{Pair}
 use Rattle.rules.specs.declared.Pair.the-variants.{P01, P02, P10, P12, P20, P21}
@@ -58,46 +60,71 @@ powersFrom (suc fuel) l R = l ∷ (elim (leb R l) [ true ↦ [] | false ↦ powe
 unfoldable pub powers : ℕ → List ℕ
 powers R = powersFrom R 1 R
 
--- ---- the triangle vectors, and the six pairs (k, l) in the order in which they are asked
+-- ---- the axes and the triangle vectors, one for each axis
+pub data Axis : Type 0 where
+  axis0 axis1 axis2 : Axis
+
+abbrev pub allAxes : List Axis
+allAxes = axis0 ∷ axis1 ∷ axis2 ∷ []
+
+abbrev pub unit : Axis → Vector
+unit axis0 = unit0
+unit axis1 = unit1
+unit axis2 = unit2
+
 abbrev pub triangle : Vector → Vector → Vector → Triangle
 triangle a b c = record { m0 = a; m1 = b; m2 = c }
 
 abbrev pub units : Triangle
 units = triangle unit0 unit1 unit2
 
+-- m_k
+abbrev pub vectorOf : Triangle → Axis → Vector
+vectorOf m axis0 = m .m0
+vectorOf m axis1 = m .m1
+vectorOf m axis2 = m .m2
+
+-- the triangle with a in the place of m_k
+abbrev pub withVector : Triangle → Axis → Vector → Triangle
+withVector m axis0 a = triangle a (m .m1) (m .m2)
+withVector m axis1 a = triangle (m .m0) a (m .m2)
+withVector m axis2 a = triangle (m .m0) (m .m1) a
+
+-- ---- the six pairs (k, l) in the order in which they are asked
 abbrev pub pairs : List Pair
 pairs = P01 ∷ P02 ∷ P10 ∷ P12 ∷ P20 ∷ P21 ∷ []
 
--- m_k
-abbrev pub first : Triangle → Pair → Vector
-first m P01 = m .m0
-first m P02 = m .m0
-first m P10 = m .m1
-first m P12 = m .m1
-first m P20 = m .m2
-first m P21 = m .m2
+-- k
+abbrev pub from : Pair → Axis
+from P01 = axis0
+from P02 = axis0
+from P10 = axis1
+from P12 = axis1
+from P20 = axis2
+from P21 = axis2
 
--- m_l
+-- l
+abbrev pub to : Pair → Axis
+to P01 = axis1
+to P02 = axis2
+to P10 = axis0
+to P12 = axis2
+to P20 = axis0
+to P21 = axis1
+
+-- m_k and m_l
+abbrev pub first : Triangle → Pair → Vector
+first m x = vectorOf m (from x)
+
 abbrev pub second : Triangle → Pair → Vector
-second m P01 = m .m1
-second m P02 = m .m2
-second m P10 = m .m0
-second m P12 = m .m2
-second m P20 = m .m0
-second m P21 = m .m1
+second m x = vectorOf m (to x)
 
 -- m_l - m_k, of which a pair asks whether it falls
 abbrev pub way : Triangle → Pair → Vector
 way m x = second m x ⊖ first m x
 
--- the triangle with a in the place of m_k
 abbrev pub with : Triangle → Pair → Vector → Triangle
-with m P01 a = triangle a (m .m1) (m .m2)
-with m P02 a = triangle a (m .m1) (m .m2)
-with m P10 a = triangle (m .m0) a (m .m2)
-with m P12 a = triangle (m .m0) a (m .m2)
-with m P20 a = triangle (m .m0) (m .m1) a
-with m P21 a = triangle (m .m0) (m .m1) a
+with m x a = withVector m (from x) a
 
 -- a step: replace m_k by m_k - m_l
 abbrev pub step : Triangle → Pair → Triangle
@@ -106,6 +133,44 @@ step m x = with m x (first m x ⊖ second m x)
 -- the sum of the cross products m0×m1, m1×m2, m2×m0
 unfoldable pub normal : Triangle → Vector
 normal m = cross (m .m0) (m .m1) ⊕ cross (m .m1) (m .m2) ⊕ cross (m .m2) (m .m0)
+
+-- ---- 2026-01: level axes
+abbrev pub levels : Bool → Bool → Bool → Levels
+levels a b c = record { x = a; y = b; z = c }
+
+abbrev pub level : Levels → Axis → Bool
+level v axis0 = v .x
+level v axis1 = v .y
+level v axis2 = v .z
+
+unfoldable pub allLevel : Levels → Bool
+allLevel v = level v axis0 && (level v axis1 && level v axis2)
+
+-- a list with one more, if a test holds of it
+unfoldable pub keep : {A : Type 0} → Bool → A → List A → List A
+keep true x xs = x ∷ xs
+keep false x xs = xs
+
+-- those of a list of which a test holds
+unfoldable pub only : {A : Type 0} → (A → Bool) → List A → List A
+only test [] = []
+only test (x ∷ xs) = keep (test x) x (only test xs)
+
+-- the remaining axes
+unfoldable pub remaining : Levels → List Axis
+remaining v = only (λ k. not (level v k)) allAxes
+
+-- a level axis takes no part in the pairs
+unfoldable pub takesPart : Levels → Pair → Bool
+takesPart v x = not (level v (from x)) && not (level v (to x))
+
+-- the component of a level axis is 0
+abbrev pub unlessLevel : Bool → ℤ → ℤ
+unlessLevel true z = pos 0
+unlessLevel false z = z
+
+unfoldable pub levelled : Levels → Vector → Vector
+levelled v n = vector (unlessLevel (v .x) (n .x)) (unlessLevel (v .y) (n .y)) (unlessLevel (v .z) (n .z))
 
 -- ---- Choice. The corners are v_k = q - m_k and the candidate of (k, l) is q + m_l - m_k, so the rows v1 - v0, v2 - v0, x - v0, y - v0 are these
 unfoldable pub determinant : Triangle → Pair → Pair → ℤ
@@ -128,11 +193,6 @@ firstFree m falling (x ∷ xs) = elim (anyInside m x falling) [ false ↦ Chosen
 unfoldable pub choice : Triangle → List Pair → Choice
 choice m falling = firstFree m falling falling
 
--- the pairs that fall, with one more if it falls
-unfoldable pub keep : Bool → Pair → List Pair → List Pair
-keep true x xs = x ∷ xs
-keep false x xs = xs
-
 -- the walk of one solid
 module _ (look : Vector → Look) where
   unfoldable pub lookAt : Vector → Asked Vector Bool
@@ -149,13 +209,26 @@ module _ (look : Vector → Look) where
 
     -- in the frame of the signs s, with the powers ls
     module _ (s : Vector) (ls : List ℕ) where
-      -- 2. for axis 0, 1, 2 ask whether minus the unit vector falls
-      unfoldable pub axes : List Vector → Asked Stop (Unit {0})
-      axes [] = answered tt []
-      axes (e ∷ es) = do
+      -- 2. ask whether minus an axis's unit vector falls. When it doesn't, its opposite is asked too: refusal 7 if that falls, else the axis is level
+      unfoldable pub isLevel : Vector → Asked Stop Bool
+      isLevel e = do
         f ← asked 0 (falls (lay s (minus e)) ls)
-        ensure f (stop 7 (q ⊕ lay s (minus e)) 0)
-        axes es
+        elim f [
+          | true ↦ answered false []
+          | false ↦ do
+            g ← asked 0 (falls (lay s e) ls)
+            ensure (not g) (stop 7 (q ⊕ lay s (minus e)) 0)
+            answered true []
+        ]
+
+      -- for axis 0, 1, 2; refusal 7, with the place as for axis 0, if all three are level
+      unfoldable pub axes : Asked Stop Levels
+      axes = do
+        a ← isLevel (unit axis0)
+        b ← isLevel (unit axis1)
+        c ← isLevel (unit axis2)
+        ensure (not (allLevel (levels a b c))) (stop 7 (q ⊕ lay s (minus (unit axis0))) 0)
+        answered (levels a b c) []
 
       -- 4. all pairs are asked, even after one has fallen
       unfoldable pub falling : Triangle → List Pair → Asked Vector (List Pair)
@@ -165,20 +238,22 @@ module _ (look : Vector → Look) where
         r ← falling m xs
         answered (keep f x r) []
 
-      -- a round: the pair to step by, if one falls
-      unfoldable pub round : Triangle → Asked Vector Choice
-      round m = do
-        fs ← falling m pairs
-        answered (choice m fs) []
+      -- with the pairs ps, those that take part
+      module _ (ps : List Pair) where
+        -- a round: the pair to step by, if one falls
+        unfoldable pub round : Triangle → Asked Vector Choice
+        round m = do
+          fs ← falling m ps
+          answered (choice m fs) []
 
-      -- 5, 6. the rounds after n steps, with `left` steps more allowed
-      unfoldable pub walk : ℕ → ℕ → Triangle → Asked Stop (Triangle × ℕ)
-      walk zero n m = do
-        c ← asked n (round m)
-        elim c [ Nothing ↦ answered (m, n) [] | Chosen x ↦ refused (stop 9 q n) [] ]
-      walk (suc left) n m = do
-        c ← asked n (round m)
-        elim c [ Nothing ↦ answered (m, n) [] | Chosen x ↦ walk left (suc n) (step m x) ]
+        -- 5, 6. the rounds after n steps, with `left` steps more allowed
+        unfoldable pub walk : ℕ → ℕ → Triangle → Asked Stop (Triangle × ℕ)
+        walk zero n m = do
+          c ← asked n (round m)
+          elim c [ Nothing ↦ answered (m, n) [] | Chosen x ↦ refused (stop 9 q n) [] ]
+        walk (suc left) n m = do
+          c ← asked n (round m)
+          elim c [ Nothing ↦ answered (m, n) [] | Chosen x ↦ walk left (suc n) (step m x) ]
 
 -- what the walk's end returns, laid into the box
 pub record Found : Type 0 where
@@ -187,26 +262,27 @@ pub record Found : Type 0 where
   pub apex : Vector
   pub steps : ℕ
 
-unfoldable pub found : Vector → Vector → Triangle × ℕ → Found
-found s q e = record {
-  normal = lay s (normal (e .0));
+unfoldable pub found : Vector → Vector → Levels → Triangle × ℕ → Found
+found s q v e = record {
+  normal = lay s (levelled v (normal (e .0)));
   triangle = triangle (lay s (e .0 .m0)) (lay s (e .0 .m1)) (lay s (e .0 .m2));
   apex = q;
   steps = e .1;
 }
 
 -- 1. look at p, then, if p is filled, q; 2. the axes
-unfoldable pub start : (Vector → Look) → Vector → Vector → Vector → ℕ → Asked Stop (Unit {0})
+unfoldable pub start : (Vector → Look) → Vector → Vector → Vector → ℕ → Asked Stop Levels
 start look s p q R = do
   f ← asked 0 (lookAt look p)
   ensure f (stop 5 p 0)
   g ← asked 0 (lookAt look q)
   ensure (not g) (stop 6 q 0)
-  axes look q s (powers R) (unit0 ∷ unit1 ∷ unit2 ∷ [])
+  axes look q s (powers R)
 
--- 3. begin with the unit vectors and zero steps; refusal 10 at the end
-unfoldable pub rounds : (Vector → Look) → Vector → Vector → ℕ → Asked Stop Found
-rounds look s q R = do
-  e ← walk look q s (powers R) (R - 3) 0 units
-  ensure (leb (size (normal (e .0))) R) (stop 10 q (e .1))
-  answered (found s q e) []
+-- 3. begin with the unit vectors and zero steps; as many steps are allowed as the reach less the number of remaining axes, none if that is below zero;
+-- refusal 10 at the end
+unfoldable pub rounds : (Vector → Look) → Vector → Vector → ℕ → Levels → Asked Stop Found
+rounds look s q R v = do
+  e ← walk look q s (powers R) (only (takesPart v) pairs) (R - length (remaining v)) 0 units
+  ensure (leb (size (levelled v (normal (e .0)))) R) (stop 10 q (e .1))
+  answered (found s q v e) []

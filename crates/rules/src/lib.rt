@@ -37,6 +37,13 @@ pub enum Look {
 
 // ---- the walk
 
+// Which of the axes 0, 1, 2 are level.
+pub struct Levels {
+    pub x: bool,
+    pub y: bool,
+    pub z: bool,
+}
+
 pub struct Triangle {
     pub m0: Vector,
     pub m1: Vector,

@@ -1,4 +1,4 @@
--- Demand 3 is not empty: W1, W2, W7, W8, a stack and the wedge that takes all the looks allowed. What is assumed of them is proved, the answers are evaluated.
+-- Demand 3 is not empty: W1, W2, W6, W7, W8, a stack, and wedges that take all the looks allowed. What is assumed of them is proved, the answers are evaluated.
 use mathlib.Core.Path.{_≡_, refl, sym, ap, subst, _∙_}
 use mathlib.Core.Bool.{Bool, true, false, _&&_, Bool·beq}
 use mathlib.Core.List.{[]}
@@ -14,19 +14,21 @@ use Rattle.rules.specs.declared.Vector.{Vector}
 use Rattle.rules.specs.declared.Wedge.{Wedge}
 use Rattle.rules.specs.declared.Solid.the-variants.{Wedge as IsWedge, Stack as IsStack}
 use Rattle.rules.specs.declared.Look.the-variants.{Filled, Empty}
+use Rattle.rules.specs.declared.Triangle.{Triangle}
 use Rattle.rules.specs.declared.Pick.{Pick}
 use Rattle.rules.specs.declared.Pick.the-variants.{Accepted, Refused}
-use Rattle.rules.specs.Vectors.{vector, _⊕_, _⊖_, minus, scale, dot, cross, det, sphere, lay, size}
+use Rattle.rules.specs.Vectors.{vector, _⊕_, _⊖_, minus, scale, dot, cross, det, sphere, lay, size, origin}
 use Rattle.rules.specs.Solids.{between, permittedWedge, filledWedge, box, inBox, filled, look, rowBytes, sliceBytes, stackBytes, permittedStack, voxel, filledStack}
 use Rattle.rules.specs.Asked.{after, _>>=_}
-use Rattle.rules.specs.Walk.{ensure, sign, signs, seen, asked, powersFrom, powers, normal, determinant, inside, anyInside, firstFree, choice, keep, lookAt, falls, axes, falling, round as roundOf, walk, found, start, rounds}
+use Rattle.rules.specs.Walk.{ensure, sign, signs, seen, asked, powersFrom, powers, Axis, axis0, axis2, normal, allLevel, keep, only, remaining, takesPart, levelled, determinant, inside, anyInside, firstFree, choice, lookAt, falls, isLevel, axes, falling, round as roundOf, walk, found, start, rounds}
 use Rattle.rules.specs.Pick.{isInside, pick, answer, pickOf}
 use Rattle.laws.specs.Tests.{first-of, second-of}
-use Rattle.laws.specs.Parts.{vector-eq}
+use Rattle.laws.specs.Parts.{part, part-scale, part-origin, vector-eq}
 use Rattle.laws.specs.Ranges.{Between}
 use Rattle.laws.specs.Boxes.{in-cube}
 use Rattle.slope.specs.Stair.{stair, row, rows, slices, stairBytes}
 use Rattle.slope.specs.Demands.{Inputs, pickAt, OnSlope, OnWedge, ofStack, at, line, Accepts, Refuses, NotEmpty}
+use Rattle.slope.specs.Base as Base
 use Rattle.slope.specs.Wedges.{multiple-slope}
 
 -- ---- a vector that has 1 or -1 for a component has no common divisor
@@ -35,10 +37,13 @@ factor-of-one zero y e = absurd (omega arith)
 factor-of-one (suc k) zero e = absurd (omega arith)
 factor-of-one (suc k) (suc y) e = omega (arith, NatL.mul-suc (suc k) y)
 
-no-divisor : (n : Vector) → natAbs (n .x) ≡ 1 → (d : ℤ) (u : Vector) → pos 0 ≤ℤ d → n ≡ scale d u → d ≡ pos 1
-unfolding scale
-no-divisor n one (pos k) u h e = ap pos (factor-of-one k (natAbs (u .x)) (sym (product-size (pos k) (u .x)) ∙ sym (ap (λ (a : Vector). natAbs (a .x)) e) ∙ one))
-no-divisor n one (negsuc k) u h e = absurd (h .le)
+module _ (n : Vector) (k : Axis) (one : natAbs (part k n) ≡ 1) where
+  no-divisor : (d : ℤ) (u : Vector) → pos 0 ≤ℤ d → n ≡ scale d u → d ≡ pos 1
+  no-divisor (pos j) u h e = ap pos (factor-of-one j (natAbs (part k u)) (sym (product-size (pos j) (part k u)) ∙ ap natAbs (sym (part-scale k (pos j) u)) ∙ ap (λ (a : Vector). natAbs (part k a)) (sym e) ∙ one))
+  no-divisor (negsuc j) u h e = absurd (h .le)
+
+  not-all-zero : n ≡ origin → ⊥
+  not-all-zero e = let z : _≡_ {A = ℕ} 0 1 = ap natAbs (sym (part-origin k)) ∙ ap (λ (a : Vector). natAbs (part k a)) (sym e) ∙ one in omega arith
 
 -- ---- what is told of an answer
 data Told : Type 0 where
@@ -69,14 +74,15 @@ refuses {n} {t} {i} o e = go (pickAt i) refl e
 abbrev wedgeOf : ℤ → ℤ → ℤ → ℤ → Wedge
 wedgeOf a b c h = record { a = a; b = b; c = c; h = h }
 
-on-wedge : (g : ℤ) {n : Vector} {a b c h : ℤ} {p : Vector} {frame reach : ℤ} → T (between (pos 3) reach (pos 256)) → T (between (pos 0) frame (pos 7)) → T (permittedWedge (wedgeOf a b c h))
-    → T (leZ (pos 1) (lay (signs (natAbs frame)) n .x)) → T (leZ (pos 1) (lay (signs (natAbs frame)) n .y)) → T (leZ (pos 1) (lay (signs (natAbs frame)) n .z))
-    → natAbs (n .x) ≡ 1 → T (leZ (pos (size n)) reach) → T (leZ (pos 1) g) → vector a b c ≡ scale g n
+-- n has 1 or -1 along k
+on-wedge : (g : ℤ) (k : Axis) {n : Vector} {a b c h : ℤ} {p : Vector} {frame reach : ℤ} → T (between (pos 1) reach (pos 256)) → T (between (pos 0) frame (pos 7)) → T (permittedWedge (wedgeOf a b c h))
+    → T (leZ (pos 0) (lay (signs (natAbs frame)) n .x)) → T (leZ (pos 0) (lay (signs (natAbs frame)) n .y)) → T (leZ (pos 0) (lay (signs (natAbs frame)) n .z))
+    → natAbs (part k n) ≡ 1 → T (leZ (pos (size n)) reach) → T (leZ (pos 1) g) → vector a b c ≡ scale g n
     → look (IsWedge (wedgeOf a b c h)) [] p ≡ Filled → look (IsWedge (wedgeOf a b c h)) [] (p ⊕ signs (natAbs frame)) ≡ Empty
     → OnWedge g n (wedgeOf a b c h) p frame reach
-on-wedge g {n = n} r f k x y z one fits once multiple filled empty = record {
-  permitted = record { permittedReach = r; permittedFrame = f; permittedSolid = k };
-  direction = record { signed = record { ofX = leZ-yes x; ofY = leZ-yes y; ofZ = leZ-yes z }; noCommonDivisor = λ d u h e. no-divisor n one d u (omega (arith, parts)) e; withinReach = leZ-yes fits };
+on-wedge g k {n = n} r f ok x y z one fits once multiple filled empty = record {
+  permitted = record { permittedReach = r; permittedFrame = f; permittedSolid = ok };
+  direction = record { signed = record { ofX = leZ-yes x; ofY = leZ-yes y; ofZ = leZ-yes z }; notAllZero = λ e. absurd (not-all-zero n k one e); noCommonDivisor = λ d u h e. no-divisor n k one d u (omega (arith, parts)) e; withinReach = leZ-yes fits };
   atLeastOnce = leZ-yes once;
   multiple = multiple;
   touched = record { startFilled = filled; apexEmpty = empty };
@@ -129,21 +135,37 @@ on-stair : OnSlope (at 1) (pos 12) (ofStack stair stairBytes (at 3) (pos 0) (pos
 unfolding between permittedStack stackBytes sliceBytes rowBytes stairBytes slices rows row lay signs sign size look inBox voxel filledStack _⊕_
 on-stair = record {
   permitted = record { permittedReach = tt; permittedFrame = tt; permittedSolid = tt };
-  direction = record { signed = record { ofX = leZ-yes tt; ofY = leZ-yes tt; ofZ = leZ-yes tt }; noCommonDivisor = λ d u h e. no-divisor (at 1) refl d u (omega (arith, parts)) e; withinReach = leZ-yes tt };
+  direction = record { signed = record { ofX = leZ-yes tt; ofY = leZ-yes tt; ofZ = leZ-yes tt }; notAllZero = λ e. absurd (not-all-zero (at 1) axis0 refl e); noCommonDivisor = λ d u h e. no-divisor (at 1) axis0 refl d u (omega (arith, parts)) e; withinReach = leZ-yes tt };
   filledBelow = stair-below;
   touched = record { startFilled = refl; apexEmpty = refl };
 }
 
 pub not-empty : NotEmpty
-unfolding told _⊕_ _⊖_ minus scale dot cross det sphere lay size between permittedWedge filledWedge inBox look rowBytes voxel filledStack permittedStack stackBytes sliceBytes stairBytes slices rows row after _>>=_ ensure sign signs seen asked powersFrom powers normal determinant inside anyInside firstFree choice keep lookAt falls axes falling roundOf walk found start rounds isInside pick answer pickOf
+unfolding told _⊕_ _⊖_ minus scale dot cross det sphere lay size between permittedWedge filledWedge inBox look rowBytes voxel filledStack permittedStack stackBytes sliceBytes stairBytes slices rows row after _>>=_ ensure sign signs seen asked powersFrom powers normal allLevel keep only remaining takesPart levelled determinant inside anyInside firstFree choice lookAt falls isLevel axes falling roundOf walk found start rounds isInside pick answer pickOf accepts
 not-empty = record {
-  W1 = accepts (on-line (on-wedge (pos 1) tt tt tt tt tt tt refl tt tt refl refl refl) tt tt) refl;
-  W2 = accepts (on-line (on-wedge (pos 1) tt tt tt tt tt tt refl tt tt refl refl refl) tt tt) refl;
-  W8 = accepts (on-line (on-wedge (pos 1) tt tt tt tt tt tt refl tt tt refl refl refl) tt tt) refl;
-  twiceW1 = on-wedge (pos 2) tt tt tt tt tt tt refl tt tt refl refl refl;
-  twiceW1Accepts = accepts (on-line (on-wedge (pos 2) tt tt tt tt tt tt refl tt tt refl refl refl) tt tt) refl;
+  W1 = accepts (on-line (on-wedge (pos 1) axis0 tt tt tt tt tt tt refl tt tt refl refl refl) tt tt) refl;
+  W2 = accepts (on-line (on-wedge (pos 1) axis0 tt tt tt tt tt tt refl tt tt refl refl refl) tt tt) refl;
+  W8 = accepts (on-line (on-wedge (pos 1) axis0 tt tt tt tt tt tt refl tt tt refl refl refl) tt tt) refl;
+  twiceW1 = on-wedge (pos 2) axis0 tt tt tt tt tt tt refl tt tt refl refl refl;
+  twiceW1Accepts = accepts (on-line (on-wedge (pos 2) axis0 tt tt tt tt tt tt refl tt tt refl refl refl) tt tt) refl;
   onStack = accepts on-stair refl;
-  W7 = refuses (on-line (on-wedge (pos 1) tt tt tt tt tt tt refl tt tt refl refl refl) tt tt) refl;
-  allowed = refl;
-  allLooks = accepts (on-line (on-wedge (pos 1) tt tt tt tt tt tt refl tt tt refl refl refl) tt tt) refl;
+  W7 = refuses (on-line (on-wedge (pos 1) axis0 tt tt tt tt tt tt refl tt tt refl refl refl) tt tt) refl;
+  allThree = accepts (on-line (on-wedge (pos 1) axis0 tt tt tt tt tt tt refl tt tt refl refl refl) tt tt) refl;
+  allTwo = accepts (on-line (on-wedge (pos 1) axis2 tt tt tt tt tt tt refl tt tt refl refl refl) tt tt) refl;
+  allOne = accepts (on-line (on-wedge (pos 1) axis2 tt tt tt tt tt tt refl tt tt refl refl refl) tt tt) refl;
+  allowed = (refl, refl, refl);
+  W6 = accepts (on-line (on-wedge (pos 1) axis2 tt tt tt tt tt tt refl tt tt refl refl refl) tt tt) refl;
+  W6Turned = accepts (on-line (on-wedge (pos 1) axis2 tt tt tt tt tt tt refl tt tt refl refl refl) tt tt) refl;
+  trianglesDiffer = λ e. let z : pos 1 ≡ negsuc 0 = ap (λ (m : Triangle). m .m0 .x) e in omega (arith, parts);
+}
+
+pub base-not-empty : Base.NotEmpty
+unfolding between permittedWedge lay signs sign size look filledWedge inBox dot _⊕_
+base-not-empty = record {
+  W1 = record {
+    permitted = record { permittedReach = tt; permittedFrame = tt; permittedSolid = tt };
+    direction = record { signed = record { ofX = leZ-yes tt; ofY = leZ-yes tt; ofZ = leZ-yes tt }; noCommonDivisor = λ d u h e. no-divisor (vector (pos 1) (pos 2) (pos 5)) axis0 refl d u (omega (arith, parts)) e; withinReach = leZ-yes tt };
+    filledBelow = not-empty .W1 .onSlope .filledBelow;
+    touched = not-empty .W1 .onSlope .touched;
+  };
 }

@@ -1,5 +1,5 @@
--- Demand 3: on every slope, from every start. Statements only, in the demand's order and words.
--- They are proved: `demand-3 : Demand3` in `Proved`, `not-empty : NotEmpty` in `Cases`.
+-- Demand 3 as document 02's 2026-01 reads it: on every slope, level along an axis or two or not, from every start. Statements only, in the demand's order and words.
+-- They are proved: `demand-3 : Demand3` in `Proved`, `not-empty : NotEmpty` in `Cases`. Document 01's own reading is beside it, in `Base`.
 use mathlib.Core.Path.{_≡_}
 use mathlib.Core.Bool.{not}
 use mathlib.Core.List.{List, []}
@@ -14,18 +14,20 @@ use Rattle.rules.specs.declared.Stack.{Stack}
 use Rattle.rules.specs.declared.Solid.{Solid}
 use Rattle.rules.specs.declared.Solid.the-variants.{Wedge as IsWedge, Stack as IsStack}
 use Rattle.rules.specs.declared.Look.the-variants.{Filled, Empty}
-use Rattle.rules.specs.declared.Triangle.{Triangle}
-use Rattle.rules.specs.declared.Pair.{Pair}
-use Rattle.rules.specs.declared.Pair.the-variants.{P01, P02}
 use Rattle.rules.specs.declared.Accepted.{Accepted as AcceptedPick}
 use Rattle.rules.specs.declared.Refused.{Refused as RefusedPick}
 use Rattle.rules.specs.declared.Pick.{Pick}
 use Rattle.rules.specs.declared.Pick.the-variants.{Accepted, Refused}
-use Rattle.rules.specs.Vectors.{vector, _⊕_, scale, dot, lay, size}
+use Rattle.rules.specs.Vectors.{vector, _⊕_, scale, dot, lay, size, origin}
 use Rattle.rules.specs.Solids.{between, permitted, box, inBox, filled, look}
-use Rattle.rules.specs.Walk.{signs, powers, way}
+use Rattle.rules.specs.Walk.{signs, powers, Axis, unit, vectorOf, level, remaining}
 use Rattle.rules.specs.Pick.{pickOf, WedgePromise, StackPromise}
-use Rattle.laws.specs.Parts.{Positive}
+use Rattle.laws.specs.Tests.{Each}
+use Rattle.laws.specs.Parts.{NonNegative}
+use Rattle.laws.specs.Levels.{levelsOf}
+use Rattle.laws.specs.Generators.{Combines, generators}
+use Rattle.laws.specs.Next.{NextLook}
+use Rattle.laws.specs.Answers.{stopOf}
 use Rattle.slope.specs.Stair.{stair, stairBytes}
 
 -- ---- document 01, "Inputs": a solid (with its lent bytes), a start p, a frame number, a reach R
@@ -51,14 +53,19 @@ pickAt i = pickOf (i .solid) (i .bytes) (i .start) (i .frame) (i .reach)
 
 -- ---- reach, frame and solid are permitted
 pub record Permitted (i : Inputs) : Type 0 where
-  pub permittedReach : T (between (pos 3) (i .reach) (pos 256))
+  pub permittedReach : T (between (pos 1) (i .reach) (pos 256))
   pub permittedFrame : T (between (pos 0) (i .frame) (pos 7))
   pub permittedSolid : T (permitted (i .solid) (i .bytes))
 
--- n has three non-zero whole components with the frame's signs (in the frame each is at least 1) and no common divisor;
+-- r, the number of remaining axes: those along which n has a part
+abbrev pub remainingOf : Vector → ℕ
+remainingOf n = length (remaining (levelsOf n))
+
+-- n has no component against the frame (in the frame none is below 0), is not all zero and has no common divisor;
 -- w, the sum of their sizes, is at most the reach
 pub record Direction (n : Vector) (i : Inputs) : Type 0 where
-  pub signed : Positive (lay (signsOf i) n)
+  pub signed : NonNegative (lay (signsOf i) n)
+  pub notAllZero : n ≡ origin → ⊥
   pub noCommonDivisor : (d : ℤ) (u : Vector) → pos 1 ≤ℤ d → n ≡ scale d u → d ≡ pos 1
   pub withinReach : pos (size n) ≤ℤ i .reach
 
@@ -75,24 +82,22 @@ pub record OnSlope (n : Vector) (t : ℤ) (i : Inputs) : Type 0 where
   pub touched : Touched i
 
 -- ---- what it asks of one pick
--- v is a whole combination of the triangle's sides
-pub record Combination (m : Triangle) (v : Vector) : Type 0 where
-  pub c1 : ℤ
-  pub c2 : ℤ
-  pub is : v ≡ scale c1 (way m P01) ⊕ scale c2 (way m P02)
-
--- accepted with normal n, after at most w - 3 steps and 2 + K(6w - 9) looks (w is at least 3);
--- the sides lie in the plane, and every whole vector of the plane is a whole combination of them
+-- accepted with normal n, after at most w less the remaining axes in steps and 2 + K(6w + 6) looks; the vectors of level axes stay the unit vectors, laid in;
+-- the generating set, the level vectors and the sides between the other corners, lies in the plane, and every whole vector of the plane is a whole combination of it
 pub record AcceptedWith (n : Vector) (i : Inputs) (a : AcceptedPick) : Type 0 where
   pub isNormal : a .normal ≡ n
-  pub fewSteps : a .steps ≤ size n - 3
-  pub fewLooks : a .looks ≤ 2 + powersOf i * (6 * size n - 9)
-  pub sidesInPlane : (side : Pair) → dot n (way (a .triangle) side) ≡ pos 0
-  pub sidesGenerate : (v : Vector) → dot n v ≡ pos 0 → Combination (a .triangle) v
+  pub fewSteps : a .steps ≤ size n - remainingOf n
+  pub fewLooks : a .looks ≤ 2 + powersOf i * (6 * size n + 6)
+  -- at most 6 - r + r(r - 1)(w + 1 - r) for each power: 5, 2w + 2 and 6w - 9 for one, two and three remaining axes. Each is reached: `NotEmpty`
+  pub fewestLooks : a .looks ≤ 2 + powersOf i * (6 - remainingOf n + remainingOf n * (remainingOf n - 1) * (size n + 1 - remainingOf n))
+  pub stays : (k : Axis) → T (level (levelsOf n) k) → vectorOf (a .triangle) k ≡ lay (signsOf i) (unit k)
+  pub inPlane : Each (λ g. dot n g ≡ pos 0) (generators (levelsOf n) (a .triangle))
+  pub generated : (v : Vector) → dot n v ≡ pos 0 → Combines (generators (levelsOf n) (a .triangle)) v
 
--- refused with 8 at a place outside the box
+-- refused with 8, at the voxel that was to be looked at next: a power times minus a unit vector, a unit vector (an opposite) or a way of the triangle reached, from the apex; it lies outside the box
 pub record RefusedOutside (i : Inputs) (r : RefusedPick) : Type 0 where
   pub isEight : r .number ≡ 8
+  pub next : NextLook (look (i .solid) (i .bytes)) (apexOf i) (signsOf i) (powers (natAbs (i .reach))) (stopOf r)
   pub outside : T (not (inBox (box (i .solid)) (r .place)))
 
 -- one of the two, nothing else
@@ -124,8 +129,8 @@ pub record OnWedge (g : ℤ) (n : Vector) (wedge : Wedge) (p : Vector) (frame re
 -- ---- the demand
 pub record Demand3 : Type 0 where
   pub onePick : (n : Vector) (t : ℤ) (i : Inputs) → OnSlope n t i → Demanded n i (pickAt i)
-  -- any two solids, starts and reaches; the offsets may differ too
-  pub twoPicks : (n : Vector) (t u : ℤ) (i j : Inputs) → OnSlope n t i → OnSlope n u j → (a b : AcceptedPick) → pickAt i ≡ Accepted a → pickAt j ≡ Accepted b → Same a b
+  -- any two solids, starts and reaches, in one frame; the offsets may differ too
+  pub twoPicks : (n : Vector) (t u : ℤ) (i j : Inputs) → OnSlope n t i → OnSlope n u j → i .frame ≡ j .frame → (a b : AcceptedPick) → pickAt i ≡ Accepted a → pickAt j ≡ Accepted b → Same a b
   -- an inspector's test wedge is a slope, common divisor or not, so both hold of it; and of what the entry points promise
   pub wedgeSlope : (g : ℤ) (n : Vector) (wedge : Wedge) (p : Vector) (frame reach : ℤ) → OnWedge g n wedge p frame reach → (t : ℤ) × OnSlope n t (ofWedge wedge p frame reach)
   pub wedgePick : (g : ℤ) (n : Vector) (wedge : Wedge) (p : Vector) (frame reach : ℤ) → OnWedge g n wedge p frame reach
@@ -133,8 +138,8 @@ pub record Demand3 : Type 0 where
   pub stackPick : (n : Vector) (t : ℤ) (stack : Stack) (bytes : List ℕ) (p : Vector) (frame reach : ℤ) → OnSlope n t (ofStack stack bytes p frame reach)
       → (r : Pick) → StackPromise stack bytes p frame reach r → Demanded n (ofStack stack bytes p frame reach) r
 
--- ---- not empty: what is assumed holds of W1, W2, W8, of a wedge with a common divisor and of a stack, and the answer is the normal;
--- it holds of W7, and the answer is 8; and the bound on the looks is reached
+-- ---- not empty: what is assumed holds of W1, W2, W6, W8, of a wedge with a common divisor and of a stack, and the answer is the normal;
+-- it holds of W7, and the answer is 8; the bound on the looks is reached for each number of remaining axes; and two frames may have two triangles
 abbrev pub at : ℕ → Vector
 at k = vector (pos k) (pos k) (pos k)
 
@@ -156,6 +161,10 @@ pub record Refuses (n : Vector) (t : ℤ) (i : Inputs) : Type 0 where
   pub is : pickAt i ≡ Refused answer
   pub isEight : answer .number ≡ 8
 
+-- the most looks on the slope of n, with the reach R
+abbrev pub fewestOf : Vector → ℕ → ℕ
+fewestOf n R = 2 + length (powers R) * (6 - remainingOf n + remainingOf n * (remainingOf n - 1) * (size n + 1 - remainingOf n))
+
 pub record NotEmpty : Type 0 where
   pub W1 : Accepts (vector (pos 1) (pos 2) (pos 5)) (pos 808) (line (pos 1) (pos 2) (pos 5) (pos 808) (at 100) (pos 0) (pos 8)) 5 116
   pub W2 : Accepts (vector (pos 1) (pos 2) (pos 5)) (pos 801) (line (pos 1) (pos 2) (pos 5) (pos 801) (at 100) (pos 0) (pos 8)) 5 144
@@ -165,6 +174,12 @@ pub record NotEmpty : Type 0 where
   pub twiceW1Accepts : Accepts (vector (pos 1) (pos 2) (pos 5)) (pos 808) (line (pos 2) (pos 4) (pos 10) (pos 1615) (at 100) (pos 0) (pos 8)) 5 116
   pub onStack : Accepts (at 1) (pos 12) (ofStack stair stairBytes (at 3) (pos 0) (pos 3)) 0 23
   pub W7 : Refuses (at 1) (pos 3) (line (pos 1) (pos 1) (pos 1) (pos 3) (at 0) (pos 0) (pos 3))
-  -- all the looks allowed: w = 3 and K = 3, so 2 + K(6w - 9) = 29
-  pub allLooks : Accepts (at 1) (pos 301) (line (pos 1) (pos 1) (pos 1) (pos 301) (at 100) (pos 0) (pos 3)) 0 29
-  pub allowed : 2 + powersOf (line (pos 1) (pos 1) (pos 1) (pos 301) (at 100) (pos 0) (pos 3)) * (6 * size (at 1) - 9) ≡ 29
+  -- all the looks allowed, with three remaining axes, two, and one at reach 1
+  pub allThree : Accepts (at 1) (pos 301) (line (pos 1) (pos 1) (pos 1) (pos 301) (at 100) (pos 0) (pos 3)) 0 (fewestOf (at 1) 3)
+  pub allTwo : Accepts (vector (pos 0) (pos 1) (pos 1)) (pos 201) (line (pos 0) (pos 1) (pos 1) (pos 201) (at 100) (pos 0) (pos 2)) 0 (fewestOf (vector (pos 0) (pos 1) (pos 1)) 2)
+  pub allOne : Accepts (vector (pos 0) (pos 0) (pos 1)) (pos 101) (line (pos 0) (pos 0) (pos 1) (pos 101) (at 100) (pos 0) (pos 1)) 0 (fewestOf (vector (pos 0) (pos 0) (pos 1)) 1)
+  pub allowed : (fewestOf (at 1) 3 ≡ 29) × (fewestOf (vector (pos 0) (pos 1) (pos 1)) 2 ≡ 14) × (fewestOf (vector (pos 0) (pos 0) (pos 1)) 1 ≡ 7)
+  -- W6, and W6 in frame 1: a level vector has its frame's sign
+  pub W6 : Accepts (vector (pos 0) (pos 1) (pos 1)) (pos 202) (line (pos 0) (pos 1) (pos 1) (pos 202) (at 100) (pos 0) (pos 8)) 0 20
+  pub W6Turned : Accepts (vector (pos 0) (pos 1) (pos 1)) (pos 202) (line (pos 0) (pos 1) (pos 1) (pos 202) (at 100) (pos 1) (pos 8)) 0 20
+  pub trianglesDiffer : W6 .answer .triangle ≡ W6Turned .answer .triangle → ⊥

@@ -1,35 +1,39 @@
--- The ideal walk: the walk of a normal n alone, with no solid, where a pair falls exactly if n·(m_l - m_k) < 0. Each height n·m_k stays at least 1 and a step
--- lowers their sum by at least 1, so from a sum of w there are at most w - 3 steps; where no pair falls all heights are equal.
+-- The ideal walk: the walk of a vector n alone, with no solid, where a pair that takes part falls exactly if n·(m_l - m_k) < 0. Each height n·m_k stays at least 1
+-- and a step lowers their sum by at least 1, so from a sum of 3 + r there are at most r steps; it ends where no pair falls.
 use mathlib.Core.Path.{_≡_, refl, _∙_}
-use mathlib.Core.Bool.{Bool, true, false}
+use mathlib.Core.Bool.{Bool, false}
 use mathlib.Core.List.{List, [], _∷_}
 use Prim.Native.Nat.{ℕ, zero, suc, _+_, _≤_}
 use native.Mathlib.Omega.{arith}
+use lib.Dec.{T}
 use lib.IntN.{ℤ, pos, _+ℤ_, _-ℤ_}
 use lib.Signed.{_≤ℤ_, _<ℤ_, ltZ, ltZ-yes, ltZ-no}
 use Rattle.integers.specs.Reify.{byring, sides}
 use Rattle.integers.specs.Order.{parts, linear, atom, goal, fact}
 use Rattle.rules.specs.declared.Vector.{Vector}
+use Rattle.rules.specs.declared.Levels.{Levels}
 use Rattle.rules.specs.declared.Triangle.{Triangle}
 use Rattle.rules.specs.declared.Pair.{Pair}
-use Rattle.rules.specs.declared.Pair.the-variants.{P01, P02, P10, P12, P20, P21}
 use Rattle.rules.specs.declared.Choice.{Choice}
 use Rattle.rules.specs.declared.Choice.the-variants.{Nothing, Chosen}
 use Rattle.rules.specs.Vectors.{_⊖_, dot}
-use Rattle.rules.specs.Walk.{pairs, first, second, way, with, step, choice, keep}
-use Rattle.laws.specs.Tests.{Each}
+use Rattle.rules.specs.Walk.{Axis, axis0, axis1, axis2, vectorOf, withVector, pairs, from, first, second, way, step, choice, only, takesPart}
+use Rattle.laws.specs.Only.{each-both-of, only-holds, only-each, only-none, each-taking}
 use Rattle.laws.specs.Parts.{dot-difference}
-use Rattle.laws.specs.Triples.{All, all-second, all-with, detOf, step-det}
+use Rattle.laws.specs.Triples.{All, all-first, all-second, all-with, detOf, step-det}
+use Rattle.laws.specs.Flat.{Flat, step-flat}
 use Rattle.laws.specs.Choosing.{Chose, choice-is, choice-exists}
 
-module _ (n : Vector) where
+module _ (n : Vector) (v : Levels) where
   -- ---- the walk
-  unfoldable pub downs : Triangle → List Pair → List Pair
-  downs m [] = []
-  downs m (x ∷ xs) = keep (ltZ (dot n (way m x)) (pos 0)) x (downs m xs)
+  abbrev isDown : Triangle → Pair → Bool
+  isDown m x = ltZ (dot n (way m x)) (pos 0)
+
+  abbrev pub downs : Triangle → List Pair → List Pair
+  downs m = only (λ x. ltZ (dot n (way m x)) (pos 0))
 
   unfoldable pub idealRound : Triangle → Choice
-  idealRound m = choice m (downs m pairs)
+  idealRound m = choice m (downs m (only (takesPart v) pairs))
 
   -- at most r steps, from m with k steps done
   unfoldable pub ideal : ℕ → ℕ → Triangle → Triangle × ℕ
@@ -40,34 +44,34 @@ module _ (n : Vector) where
   pub record Upright (m : Triangle) : Type 0 where
     pub unimodular : detOf m ≡ pos 1
     pub high : All (λ a. pos 1 ≤ℤ dot n a) m
+    pub flat : Flat v m
 
   abbrev pub heights : Triangle → ℤ
   heights m = dot n (m .m0) +ℤ dot n (m .m1) +ℤ dot n (m .m2)
 
-  abbrev Down : Triangle → Pair → Type 0
-  Down m x = dot n (way m x) <ℤ pos 0
+  -- x takes part and goes down
+  pub record Down (m : Triangle) (x : Pair) : Type 0 where
+    pub takes : T (takesPart v x)
+    pub down : dot n (way m x) <ℤ pos 0
 
   new-height : (a b : Vector) → dot n (b ⊖ a) <ℤ pos 0 → pos 1 ≤ℤ dot n (a ⊖ b)
   new-height a b h =
       rw (dot-difference n a b) (let p = atom (dot n a) in let q = atom (dot n b) in goal (search linear) (omega (arith, fact (search linear) (rw (dot-difference n b a) at h))))
 
   pub step-upright : (m : Triangle) (x : Pair) → Upright m → Down m x → Upright (step m x)
-  step-upright m x u h = record { unimodular = step-det m x ∙ u .unimodular; high = all-with (u .high) x (new-height (first m x) (second m x) h) }
+  step-upright m x u h = record { unimodular = step-det m x ∙ u .unimodular; high = all-with (u .high) x (new-height (first m x) (second m x) (h .down)); flat = step-flat v m x (h .takes) (u .flat) }
 
   abbrev four : Triangle → Vector → List ℤ
   four m a = dot n a ∷ dot n (m .m0) ∷ dot n (m .m1) ∷ dot n (m .m2) ∷ []
 
-  heights-with : (m : Triangle) (x : Pair) (a : Vector) → heights (with m x a) ≡ heights m -ℤ dot n (first m x) +ℤ dot n a
-  heights-with m P01 a = byring (four m a) (search sides depth 40 fits 5000) tt
-  heights-with m P02 a = byring (four m a) (search sides depth 40 fits 5000) tt
-  heights-with m P10 a = byring (four m a) (search sides depth 40 fits 5000) tt
-  heights-with m P12 a = byring (four m a) (search sides depth 40 fits 5000) tt
-  heights-with m P20 a = byring (four m a) (search sides depth 40 fits 5000) tt
-  heights-with m P21 a = byring (four m a) (search sides depth 40 fits 5000) tt
+  heights-with : (m : Triangle) (k : Axis) (a : Vector) → heights (withVector m k a) ≡ heights m -ℤ dot n (vectorOf m k) +ℤ dot n a
+  heights-with m axis0 a = byring (four m a) (search sides depth 40 fits 5000) tt
+  heights-with m axis1 a = byring (four m a) (search sides depth 40 fits 5000) tt
+  heights-with m axis2 a = byring (four m a) (search sides depth 40 fits 5000) tt
 
   step-heights : (m : Triangle) (x : Pair) → heights (step m x) ≡ heights m -ℤ dot n (second m x)
   step-heights m x =
-      heights-with m x (first m x ⊖ second m x)
+      heights-with m (from x) (first m x ⊖ second m x)
       ∙ rw (dot-difference n (first m x) (second m x)) (byring (heights m ∷ dot n (first m x) ∷ dot n (second m x) ∷ []) (search sides depth 40 fits 5000) tt)
 
   -- the sum falls by at least 1, and never below 3
@@ -83,63 +87,43 @@ module _ (n : Vector) where
       omega (arith, parts, all-second (u .high) x, fact (search linear) (rw (step-heights m x) at (three (step m x) (step-upright m x u d))))
 
   -- ---- a round
-  each-down : (m : Triangle) (xs : List Pair) → Each (Down m) (downs m xs)
-  unfolding downs keep
-  each-down m [] = tt
-  each-down m (x ∷ xs) = go (ltZ (dot n (way m x)) (pos 0)) refl (each-down m xs)
-    where
-      go : (b : Bool) → ltZ (dot n (way m x)) (pos 0) ≡ b → Each (Down m) (downs m xs) → Each (Down m) (keep b x (downs m xs))
-      go true e r = (ltZ-yes (rw e tt), r)
-      go false e r = r
-
   pub round-down : (m : Triangle) → Chose (Down m) (Unit {0}) (idealRound m)
   unfolding idealRound
-  round-down m = choice-is (Down m) m (downs m pairs) (each-down m pairs)
-
-  none-down : (m : Triangle) (xs : List Pair) → downs m xs ≡ [] → Each (λ x. pos 0 ≤ℤ dot n (way m x)) xs
-  unfolding downs keep
-  none-down m [] e = tt
-  none-down m (x ∷ xs) e = go (ltZ (dot n (way m x)) (pos 0)) refl e (none-down m xs)
+  round-down m =
+      choice-is (Down m) m (downs m ps)
+      (each-both-of (λ x. T (isDown m x)) (λ x. T (takesPart v x)) (Down m) (downs m ps) (λ x d t. record { takes = t; down = ltZ-yes d }) (only-holds (isDown m) ps) (only-each (isDown m) (λ x. T (takesPart v x)) ps (only-holds (takesPart v) pairs)))
     where
-      go : (b : Bool) → ltZ (dot n (way m x)) (pos 0) ≡ b → keep b x (downs m xs) ≡ [] → (downs m xs ≡ [] → Each (λ x. pos 0 ≤ℤ dot n (way m x)) xs) → Each (λ x. pos 0 ≤ℤ dot n (way m x)) (x ∷ xs)
-      go true d e r = absurd (let z : _≡_ {A = ℕ} 0 1 = cc in omega arith)
-      go false d e r = (ltZ-no (rw d tt), r e)
+      ps : List Pair
+      ps = only (takesPart v) pairs
 
-  -- all heights are equal
-  pub record Level (m : Triangle) : Type 0 where
+  -- no pair that takes part goes down
+  pub record Even (m : Triangle) : Type 0 where
     pub upright : Upright m
-    pub same1 : dot n (m .m1) ≡ dot n (m .m0)
-    pub same2 : dot n (m .m2) ≡ dot n (m .m0)
+    pub none : (x : Pair) → T (takesPart v x) → pos 0 ≤ℤ dot n (way m x)
 
-  not-down : (a b : Vector) → pos 0 ≤ℤ dot n (a ⊖ b) → dot n b ≤ℤ dot n a
-  not-down a b h = let p = atom (dot n a) in let q = atom (dot n b) in goal (search linear) (omega (arith, fact (search linear) (rw (dot-difference n a b) at h)))
-
-  none-level : (m : Triangle) → Upright m → idealRound m ≡ Nothing → Level m
+  none-even : (m : Triangle) → Upright m → idealRound m ≡ Nothing → Even m
   unfolding idealRound
-  none-level m u e = go (none-down m pairs (choice-exists m (u .unimodular) (downs m pairs) e))
-    where
-      go : Each (λ x. pos 0 ≤ℤ dot n (way m x)) pairs → Level m
-      go w = record {
-        upright = u;
-        same1 = omega (arith, parts, not-down (m .m1) (m .m0) (w .0), not-down (m .m0) (m .m1) (w .1 .1 .0));
-        same2 = omega (arith, parts, not-down (m .m2) (m .m0) (w .1 .0), not-down (m .m0) (m .m2) (w .1 .1 .1 .1 .0));
-      }
+  none-even m u e = record {
+    upright = u;
+    none = λ x t. let f = each-taking (λ x. isDown m x ≡ false) v (only-none (isDown m) (only (takesPart v) pairs) (choice-exists m (u .unimodular) _ e)) x t in ltZ-no (rw f tt);
+  }
 
-  lowest : (m : Triangle) → Upright m → heights m ≤ℤ pos 3 → Level m
+  lowest : (m : Triangle) → Upright m → heights m ≤ℤ pos 3 → Even m
   lowest m u h =
       let a = atom (dot n (m .m0)) in let b = atom (dot n (m .m1)) in let c = atom (dot n (m .m2)) in
-      let f = fact (search linear) h in
-      record { upright = u; same1 = omega (arith, parts, u .high .of0, u .high .of1, u .high .of2); same2 = omega (arith, parts, u .high .of0, u .high .of1, u .high .of2) }
+      let f = fact (search linear) h in let h0 = u .high .of0 in let h1 = u .high .of1 in let h2 = u .high .of2 in
+      let one : All (λ a. dot n a ≡ pos 1) m = record { of0 = omega (arith, parts); of1 = omega (arith, parts); of2 = omega (arith, parts) } in
+      record { upright = u; none = λ x t. rw (dot-difference n (second m x) (first m x), all-first one x, all-second one x) (omega (arith, parts)) }
 
-  -- ---- the ideal walk ends with equal heights, after at most r steps
-  pub ideal-level : (r k : ℕ) (m : Triangle) → Upright m → heights m ≤ℤ pos (3 + r) → Level (ideal r k m .0)
+  -- ---- the ideal walk ends where no pair falls, after at most r steps
+  pub ideal-even : (r k : ℕ) (m : Triangle) → Upright m → heights m ≤ℤ pos (3 + r) → Even (ideal r k m .0)
   unfolding ideal
-  ideal-level zero k m u h = lowest m u h
-  ideal-level (suc r) k m u h = go (idealRound m) refl (λ x. ideal-level r (suc k) (step m x))
+  ideal-even zero k m u h = lowest m u h
+  ideal-even (suc r) k m u h = go (idealRound m) refl (λ x. ideal-even r (suc k) (step m x))
     where
-      go : (c : Choice) → idealRound m ≡ c → ((x : Pair) → Upright (step m x) → heights (step m x) ≤ℤ pos (3 + r) → Level (ideal r (suc k) (step m x) .0))
-          → Level ((elim c as (λ _. Triangle × ℕ) [ Nothing ↦ (m, k) | Chosen x ↦ ideal r (suc k) (step m x) ]) .0)
-      go Nothing e f = none-level m u e
+      go : (c : Choice) → idealRound m ≡ c → ((x : Pair) → Upright (step m x) → heights (step m x) ≤ℤ pos (3 + r) → Even (ideal r (suc k) (step m x) .0))
+          → Even ((elim c as (λ _. Triangle × ℕ) [ Nothing ↦ (m, k) | Chosen x ↦ ideal r (suc k) (step m x) ]) .0)
+      go Nothing e f = none-even m u e
       go (Chosen x) e f = f x (step-upright m x u (rw e at (round-down m))) (step-lower m x r u h)
 
   pub ideal-steps : (r k : ℕ) (m : Triangle) → ideal r k m .1 ≤ k + r

@@ -1,10 +1,13 @@
--- Demand 3, over document 01's definitions. `Demands` states it, `Proved` proves it; the others are the lemmas, `Stair` an example stack.
+-- Demand 3, over document 01's definitions. `Demands` states it in document 02's reading and `Base` in document 01's, `Proved` and `Corollary` prove them; the others are the lemmas, `Stair` an example stack.
 pub mod Stair
 pub mod Demands
+pub mod Base
 pub mod Falls
 pub mod Ideal
+pub mod Ends
 pub mod Rounds
 pub mod Picks
 pub mod Wedges
 pub mod Cases
 pub mod Proved
+pub mod Corollary

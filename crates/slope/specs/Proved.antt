@@ -1,62 +1,88 @@
 -- Demand 3 is proved: each sentence is read off the ideal walk, which an accepted pick on a slope equals.
-use mathlib.Core.Path.{_≡_, refl, sym, ap, ap₂, subst, _∙_}
-use Prim.Native.Nat.{ℕ, _+_, _*_, _-_}
+use mathlib.Core.Path.{_≡_, refl, sym, ap, subst, _∙_}
+use Prim.Native.Nat.{ℕ, zero, suc, _+_, _*_, _-_, _≤_}
+use native.Mathlib.Nat as NatL
 use native.Mathlib.Omega.{arith}
+use lib.Dec.{T}
 use lib.IntN.{ℤ, pos, natAbs}
 use Rattle.rules.specs.declared.Vector.{Vector}
-use Rattle.rules.specs.declared.Pair.{Pair}
+use Rattle.rules.specs.declared.Triangle.{Triangle}
 use Rattle.rules.specs.declared.Accepted.{Accepted as AcceptedPick}
 use Rattle.rules.specs.declared.Pick.{Pick}
 use Rattle.rules.specs.declared.Pick.the-variants.{Accepted, Refused}
 use Rattle.rules.specs.Vectors.{dot, lay, size}
 use Rattle.rules.specs.Solids.{permitted, look}
-use Rattle.rules.specs.Walk.{units, first, second, way, normal, Found, found}
+use Rattle.rules.specs.Walk.{signs, powers, Axis, unit, units, vectorOf, level, normal, levelled, Found, found}
 use Rattle.rules.specs.Pick.{pick, pickOf}
-use Rattle.laws.specs.Parts.{dot-difference}
-use Rattle.laws.specs.Triples.{All, all-first, all-second}
-use Rattle.laws.specs.Frames.{signs-are, lay-lay, same-frame}
+use Rattle.laws.specs.Triples.{detOf}
+use Rattle.laws.specs.Levels.{levelsOf, at-most-3, some-remain}
+use Rattle.laws.specs.Flat.{Flat, raised}
+use Rattle.laws.specs.Generators.{Combines, generators, Products, generators-in}
+use Rattle.laws.specs.Frames.{signs-are}
+use Rattle.laws.specs.Says.{Few}
 use Rattle.laws.specs.Boxes.{outside-box}
-use Rattle.laws.specs.Answers.{laid, foundOf, AnswerSays, answer-says}
-use Rattle.laws.specs.Theorems.{accepted-products, accepted-sides}
-use Rattle.slope.specs.Demands.{Inputs, signsOf, apexOf, powersOf, pickAt, OnSlope, Combination, Demanded, Same, Demand3}
+use Rattle.laws.specs.Answers.{laid, laid-of, foundOf, AnswerSays, answer-says, laid-products, laid-generated}
+use Rattle.slope.specs.Demands.{Inputs, signsOf, apexOf, powersOf, pickAt, remainingOf, OnSlope, Demanded, Same, Demand3}
 use Rattle.slope.specs.Ideal.{ideal, ideal-steps}
-use Rattle.slope.specs.Picks.{ideally, end-normal, pick-says}
+use Rattle.slope.specs.Picks.{some, few, ideally, fewest, end-even, end-normal, pick-says}
 use Rattle.slope.specs.Rounds.{Edge}
 use Rattle.slope.specs.Wedges.{wedge-slope}
 
+-- 6w + 6 looks a power are enough for any number r of remaining axes
+asked-few : (r w : ℕ) → 1 ≤ r → r ≤ 3 → r ≤ w → 6 - r + r * (r - 1) * (w + 1 - r) ≤ 6 * w + 6
+asked-few zero w h k l = absurd (omega arith)
+asked-few (suc zero) w h k l = omega arith
+asked-few (suc (suc zero)) w h k l = omega arith
+asked-few (suc (suc (suc zero))) w h k l = omega arith
+asked-few (suc (suc (suc (suc r)))) w h k l = absurd (omega arith)
+
 module _ (n : Vector) (t : ℤ) (i : Inputs) (o : OnSlope n t i) where
   abbrev whole : Found
-  whole = found (signsOf i) (apexOf i) (ideally n t i o)
+  whole = found (signsOf i) (apexOf i) (levelsOf n) (ideally n t i o)
 
   abbrev Said : Pick → Type 0
-  Said = AnswerSays (λ f. f ≡ whole) (Edge (look (i .solid) (i .bytes))) (2 + powersOf i * (6 * size n - 9))
+  Said = AnswerSays (Few (fewest n t i o) (λ f. f ≡ whole)) (λ e l. Edge (look (i .solid) (i .bytes)) (apexOf i) (signsOf i) (powers (natAbs (i .reach))) e)
 
   said : Said (pickAt i)
   unfolding pickOf
-  said = answer-says _ _ _ (pick (permitted (i .solid) (i .bytes)) (look (i .solid) (i .bytes)) (i .start) (i .frame) (i .reach)) (pick-says n t i o)
+  said = answer-says _ _ (pick (permitted (i .solid) (i .bytes)) (look (i .solid) (i .bytes)) (i .start) (i .frame) (i .reach)) (pick-says n t i o)
 
-  is-whole : (a : AcceptedPick) → pickAt i ≡ Accepted a → foundOf a ≡ whole
-  is-whole a e = subst Said e said .0
+  pub is-whole : (a : AcceptedPick) → pickAt i ≡ Accepted a → foundOf a ≡ whole
+  is-whole a e = subst Said e said .holds
 
   is-normal : (a : AcceptedPick) → pickAt i ≡ Accepted a → a .normal ≡ n
   unfolding found
   is-normal a e = ap (λ (f : Found). f .normal) (is-whole a e) ∙ end-normal n t i o
 
-  -- as many steps as the ideal walk
+  -- as many steps as the ideal walk, and its triangle
   ideal-many : (a : AcceptedPick) → pickAt i ≡ Accepted a → a .steps ≡ ideally n t i o .1
   unfolding found
   ideal-many a e = ap (λ (f : Found). f .steps) (is-whole a e)
 
-  in-plane : (a : AcceptedPick) → pickAt i ≡ Accepted a → (side : Pair) → dot n (way (a .triangle) side) ≡ pos 0
-  in-plane a e side =
-      let m = a .triangle in
-      let products : All (λ b. dot n b ≡ pos 1) m = rw (← is-normal a e) (accepted-products (i .solid) (i .bytes) (i .start) (i .frame) (i .reach) a e) in
-      rw (dot-difference n (second m side) (first m side), all-first products side, all-second products side)
+  abbrev m : Triangle
+  m = ideally n t i o .0
 
-  generate : (a : AcceptedPick) → pickAt i ≡ Accepted a → (v : Vector) → dot n v ≡ pos 0 → Combination (a .triangle) v
-  generate a e v h =
-      let c = accepted-sides (i .solid) (i .bytes) (i .start) (i .frame) (i .reach) a e v (rw (is-normal a e) h) in
-      record { c1 = c .0; c2 = c .1; is = c .2 }
+  triangle-is : (a : AcceptedPick) → pickAt i ≡ Accepted a → a .triangle ≡ laid (signsOf i) m
+  unfolding found
+  triangle-is a e = ap (λ (f : Found). f .triangle) (is-whole a e)
+
+  flat : Flat (levelsOf n) m
+  flat = end-even n t i o .upright .flat
+
+  one : detOf m ≡ pos 1
+  one = end-even n t i o .upright .unimodular
+
+  stay : (k : Axis) → T (level (levelsOf n) k) → vectorOf (laid (signsOf i) m) k ≡ lay (signsOf i) (unit k)
+  stay k h = laid-of (signsOf i) m k ∙ ap (lay (signsOf i)) (flat k h k .own refl)
+
+  products : Products (levelsOf n) n (laid (signsOf i) m)
+  products = subst (λ u. Products (levelsOf n) u (laid (signsOf i) m)) (end-normal n t i o) (laid-products (signs-are (natAbs (i .frame))) flat one)
+
+  generate : (v : Vector) → dot n v ≡ pos 0 → Combines (generators (levelsOf n) (laid (signsOf i) m)) v
+  generate v h = laid-generated (signs-are (natAbs (i .frame))) flat one v (rw (end-normal n t i o) h)
+
+  few-enough : fewest n t i o ≤ 2 + powersOf i * (6 * size n + 6)
+  few-enough = omega (arith, NatL.mul-le-mul-left (powersOf i) (asked-few (remainingOf n) (size n) (some-remain (levelsOf n) (some n t i o)) (at-most-3 (levelsOf n)) (few n t i o)))
 
   one-pick : Demanded n i (pickAt i)
   one-pick = go (pickAt i) refl said
@@ -64,32 +90,36 @@ module _ (n : Vector) (t : ℤ) (i : Inputs) (o : OnSlope n t i) where
       go : (x : Pick) → pickAt i ≡ x → Said x → Demanded n i x
       go (Accepted a) e h = record {
         isNormal = is-normal a e;
-        fewSteps = omega (arith, ideal-many a e, ideal-steps (lay (signsOf i) n) (size n - 3) 0 units);
-        fewLooks = omega (arith, h .1);
-        sidesInPlane = in-plane a e;
-        sidesGenerate = generate a e;
+        fewSteps = omega (arith, ideal-many a e, ideal-steps (raised (levelsOf n) (lay (signsOf i) n)) (levelsOf n) (size n - remainingOf n) 0 units);
+        fewLooks = omega (arith, h .few, few-enough);
+        fewestLooks = h .few;
+        stays = rw (triangle-is a e) stay;
+        inPlane = rw (triangle-is a e) (generators-in (levelsOf n) n (laid (signsOf i) m) products);
+        generated = rw (triangle-is a e) generate;
       }
-      go (Refused r) e h = record { isEight = h .0 .isEight; outside = outside-box (i .solid) (i .bytes) (r .place) (h .0 .outside) }
+      go (Refused r) e h = record { isEight = h .isEight; next = h .next; outside = outside-box (i .solid) (i .bytes) (r .place) (h .next .outside) }
 
--- ---- two picks: n has one frame, and the ideal walk knows nothing else
-same-whole : (s r a b p q : Vector) (k : ℕ) → s ≡ r → a ≡ b → (f g : AcceptedPick) → foundOf f ≡ found s p (ideal a k 0 units) → foundOf g ≡ found r q (ideal b k 0 units) → Same f g
+-- ---- two picks with the same signs: the ideal walk knows nothing else
+same-whole : (n s r p q : Vector) → s ≡ r → (f g : AcceptedPick)
+    → foundOf f ≡ found s p (levelsOf n) (ideal (raised (levelsOf n) (lay s n)) (levelsOf n) (size n - remainingOf n) 0 units)
+    → foundOf g ≡ found r q (levelsOf n) (ideal (raised (levelsOf n) (lay r n)) (levelsOf n) (size n - remainingOf n) 0 units) → Same f g
 unfolding found
-same-whole s r a b p q k e d f g x y = record {
-  normals = ap (λ (f : Found). f .normal) x ∙ ap₂ (λ s n. lay s (normal (ideal n k 0 units .0))) e d ∙ sym (ap (λ (f : Found). f .normal) y);
-  triangles = ap (λ (f : Found). f .triangle) x ∙ ap₂ (λ s n. laid s (ideal n k 0 units .0)) e d ∙ sym (ap (λ (f : Found). f .triangle) y);
-  steps = ap (λ (f : Found). f .steps) x ∙ ap (λ n. ideal n k 0 units .1) d ∙ sym (ap (λ (f : Found). f .steps) y);
+same-whole n s r p q e f g x y = record {
+  normals = ap (λ (f : Found). f .normal) x ∙ ap (λ s. lay s (levelled (levelsOf n) (normal (walked s .0)))) e ∙ sym (ap (λ (f : Found). f .normal) y);
+  triangles = ap (λ (f : Found). f .triangle) x ∙ ap (λ s. laid s (walked s .0)) e ∙ sym (ap (λ (f : Found). f .triangle) y);
+  steps = ap (λ (f : Found). f .steps) x ∙ ap (λ s. walked s .1) e ∙ sym (ap (λ (f : Found). f .steps) y);
 }
+  where
+    walked : Vector → Triangle × ℕ
+    walked s = ideal (raised (levelsOf n) (lay s n)) (levelsOf n) (size n - remainingOf n) 0 units
 
-two-picks : (n : Vector) (t u : ℤ) (i j : Inputs) → OnSlope n t i → OnSlope n u j → (a b : AcceptedPick) → pickAt i ≡ Accepted a → pickAt j ≡ Accepted b → Same a b
-two-picks n t u i j o p a b e d =
-    let g = signs-are (natAbs (i .frame)) in let h = signs-are (natAbs (j .frame)) in
-    let same = same-frame (signsOf i) (signsOf j) _ _ g h (o .direction .signed) (p .direction .signed) (lay-lay (signsOf i) n g ∙ sym (lay-lay (signsOf j) n h)) in
-    same-whole _ _ _ _ _ _ (size n - 3) (same .0) (same .1) a b (is-whole n t i o a e) (is-whole n u j p b d)
+pub two-picks : (n : Vector) (t u : ℤ) (i j : Inputs) → OnSlope n t i → OnSlope n u j → signsOf i ≡ signsOf j → (a b : AcceptedPick) → pickAt i ≡ Accepted a → pickAt j ≡ Accepted b → Same a b
+two-picks n t u i j o p e a b x y = same-whole n _ _ _ _ e a b (is-whole n t i o a x) (is-whole n u j p b y)
 
 pub demand-3 : Demand3
 demand-3 = record {
   onePick = one-pick;
-  twoPicks = two-picks;
+  twoPicks = λ n t u i j o p e. two-picks n t u i j o p (ap (λ (f : ℤ). signs (natAbs f)) e);
   wedgeSlope = wedge-slope;
   wedgePick = λ g n wedge p frame reach o r h. let w = wedge-slope g n wedge p frame reach o in rw (h .is) (one-pick n (w .0) _ (w .1));
   stackPick = λ n t stack bytes p frame reach o r h. rw (h .is) (one-pick n t _ o);

@@ -1,12 +1,14 @@
 // The walk: rounds and steps until no pair falls.
 ghost use mathlib.Core.Path.{_≡_};
 ghost use Prim.Native.Nat.{_≤_};
-ghost use Rattle.rules.specs.Walk.{units};
+ghost use lib.ListN.{length};
+ghost use Rattle.rules.specs.Walk.{units, remaining};
 ghost use Rattle.falls.specs.Scene.{Ready};
-ghost use Rattle.walk.specs.Walk.{refusalOf, WalksIn};
+ghost use Rattle.walk.specs.Walk.{refusalOf, allowed, WalksIn};
 use falls::Scene;
 use round::Round;
 use rules::Choice;
+use rules::Levels;
 use rules::Refused;
 use rules::Triangle;
 use rules::Vector;
@@ -37,18 +39,35 @@ pub fn refusal(number: u32, place: Vector, steps: u32, looks: u32) -> Refused
     }
 }
 
-// Begin with the unit vectors and zero steps; at most R - 3 steps.
-pub fn walk_on(scene: Scene, bytes: &[u8], looks: u32) -> Walked
-    requires { ⌜ Ready scene (now bytes) × (looks ≤ 2000) ⌝ }
-    ensures { λ r. ⌜ WalksIn scene (now (bytes .entry)) looks r ⌝ }
+fn count_remaining(level: Levels) -> u32
+    ensures { λ r. ⌜ r ≡ length (remaining level) ⌝ }
+{
+    let x = !level.x as u32;
+    let y = !level.y as u32;
+    let z = !level.z as u32;
+    x + y + z
+}
+
+// The reach less the number of remaining axes, none if that is below zero.
+fn steps_allowed(reach: u32, level: Levels) -> u32
+    ensures { λ r. ⌜ r ≡ allowed reach level ⌝ }
+{
+    let axes = count_remaining(level);
+    if reach < axes { 0 } else { reach - axes }
+}
+
+// Begin with the unit vectors and zero steps.
+pub fn walk_on(scene: Scene, bytes: &[u8], level: Levels, looks: u32) -> Walked
+    requires { ⌜ Ready scene (now bytes) × (looks ≤ 4000) ⌝ }
+    ensures { λ r. ⌜ WalksIn scene (now (bytes .entry)) level looks r ⌝ }
 {
     let q = scene.apex;
-    let limit = scene.reach - 3;
+    let limit = steps_allowed(scene.reach, level);
     let mut m = unit_vectors();
     let mut steps: u32 = 0;
     let mut n = looks;
     let end = loop {
-        let r = round::ask_round(scene, bytes, m, n);
+        let r = round::ask_round(scene, bytes, level, m, n);
         match r {
             Round::Stopped(p, k) => {
                 break Walked::Refused(refusal(8, p, steps, k));

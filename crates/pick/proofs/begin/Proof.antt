@@ -2,7 +2,7 @@
 use mathlib.Core.Path.{ap}
 use native.Mathlib.Omega.{arith}
 use borrow.Author.Needs.{needs}
-use Rattle.pick.specs.Start.{looksOf}
+use Rattle.start.specs.Start.{looksOf}
 use Rattle.pick.proofs.Answers.{answering}
 use Rattle.pick.proofs.begin.Statement.{statement}
 use Rattle.pick.proofs.begin.Tie as tie

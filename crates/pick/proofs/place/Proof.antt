@@ -22,8 +22,7 @@ begin-requires c κs =
       permitted = s .pre .0;
       placed = record { is = sym (c .before .is-inside2 .ensures) ∙ c .if2 .taken };
       signed = rw (c .before .before .before .signs-of .ensures) (signs-are (s .args .frame));
-      reach-low = s .pre .1;
-      reach-high = s .pre .2;
+      reach-high = s .pre .1;
     }
 
 pub place-spec : {M : Type 1} → statement M

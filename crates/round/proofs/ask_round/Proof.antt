@@ -6,10 +6,10 @@ use Rattle.round.proofs.ask_round.Statement.{statement}
 use Rattle.round.proofs.ask_round.Tie as tie
 
 abbrev Inv-loop : tie.InvT-loop
-Inv-loop scene bytes m looks x₀ sofar₀ x sofar = Asking (look (scene .solid) bytes) (scene .apex) (scene .signs) (scene .reach) m looks x sofar
+Inv-loop scene bytes level m looks x₀ sofar₀ x sofar = Asking (look (scene .solid) bytes) (scene .apex) (scene .signs) (scene .reach) m level looks x sofar
 
 abbrev μ-loop : tie.MeasureT-loop
-μ-loop scene bytes m looks x₀ sofar₀ x sofar = left x
+μ-loop scene bytes level m looks x₀ sofar₀ x sofar = left x
 
 ask-pair-requires : tie.Need-ask-pair-requires Inv-loop μ-loop
 ask-pair-requires c κs =

@@ -9,18 +9,18 @@ use Rattle.walk.proofs.walk_on.Statement.{statement}
 use Rattle.walk.proofs.walk_on.Tie as tie
 
 abbrev Inv-loop : tie.InvT-loop
-Inv-loop scene bytes looks q limit m₀ steps₀ n₀ m steps n = Walking (look (scene .solid) bytes) (scene .apex) (scene .signs) (scene .reach) looks m steps n
+Inv-loop scene bytes level looks q limit m₀ steps₀ n₀ m steps n = Walking (look (scene .solid) bytes) (scene .apex) (scene .signs) (scene .reach) level looks m steps n
 
 abbrev μ-loop : tie.MeasureT-loop
-μ-loop scene bytes looks q limit m₀ steps₀ n₀ m steps n = limit - steps
+μ-loop scene bytes level looks q limit m₀ steps₀ n₀ m steps n = limit - steps
 
 loop-again : tie.Need-loop-again Inv-loop μ-loop
 loop-again c =
     let choice = c .before .before .before in
     let round = choice .before .before .before in
     let asked = round .before .before in
-    let start = asked .before .before .before .before .before .before in
-    walks-on (start .pre .0) (asked .before .loop .inv) (asked .ask-round .ensures) (round .r2 .given .1) (choice .c .given .1) (c .before .if1 .left) (c .step-by .ensures)
+    let began = asked .before .before .before in
+    walks-on (began .before .before .before .pre .0) (began .steps-allowed .ensures) (asked .before .loop .inv) (asked .ask-round .ensures) (round .r2 .given .1) (choice .c .given .1) (c .before .if1 .left) (c .step-by .ensures)
 
 pub walk-on-spec : {M : Type 1} → statement M
 walk-on-spec =
@@ -28,7 +28,7 @@ walk-on-spec =
     (tie.spec
     Inv-loop
     μ-loop
-    (λ c. omega arith)
+    (λ c κs. search needs)
     (λ c κs. search needs)
     (λ c. search walk-begins)
     (λ c κs. search needs)

@@ -1,8 +1,8 @@
--- `pick::start_at` meets its contract: by the two looks and the axes.
+-- `start::start_at` meets its contract: by the two looks and the axes.
 use borrow.Author.Needs.{needs}
-use Rattle.pick.proofs.Starts.{starting}
-use Rattle.pick.proofs.start_at.Statement.{statement}
-use Rattle.pick.proofs.start_at.Tie as tie
+use Rattle.start.proofs.Starts.{starting}
+use Rattle.start.proofs.start_at.Statement.{statement}
+use Rattle.start.proofs.start_at.Tie as tie
 
 pub start-at-spec : {M : Type 1} → statement M
 start-at-spec =

@@ -1,23 +1,22 @@
 -- The start: p, then, if p is filled, q, then the axes.
 use mathlib.Core.Path.{_≡_, refl, sym, ap, _∙_}
 use mathlib.Core.Bool.{not}
-use mathlib.Core.List.{[], _∷_}
 use Prim.Native.Nat.{ℕ}
 use native.Mathlib.Omega.{arith}
 use Rattle.rules.specs.declared.Vector.{Vector}
 use Rattle.rules.specs.declared.Look.{Look}
 use Rattle.rules.specs.declared.Look.the-variants.{Filled, Empty, Outside}
+use Rattle.rules.specs.declared.Levels.{Levels}
 use Rattle.rules.specs.declared.Refused.{Refused}
-use Rattle.rules.specs.Vectors.{unit0, unit1, unit2}
 use Rattle.rules.specs.Asked.{_>>=_}
 use Rattle.rules.specs.Walk.{Stop, stop, ensure, asked, lookAt, powers, axes, start}
 use Rattle.falls.specs.Tally.{Tally, no, Gives}
 use Rattle.falls.proofs.Tallies.{then-yes, then-no, asked-yes, asked-no, ensured, not-ensured}
 use Rattle.falls.proofs.Powers.{filled-there, empty-there, outside-there}
 use Rattle.walk.specs.Walk.{refusalOf}
-use Rattle.pick.specs.Start.{AxesAsked, Started}
-use Rattle.pick.specs.declared.Start.{Start}
-use Rattle.pick.specs.declared.Start.the-variants.{Refused as IsRefused}
+use Rattle.start.specs.Start.{AxesAsked, Started}
+use Rattle.start.specs.declared.Start.{Start}
+use Rattle.start.specs.declared.Start.the-variants.{Refused as IsRefused}
 
 module _ (look : Vector → Look) (s p q : Vector) (reach : ℕ) where
   start-outside : look p ≡ Outside → Gives 0 (start look s p q reach) (no (stop 8 p 0) 0)
@@ -29,7 +28,7 @@ module _ (look : Vector → Look) (s p q : Vector) (reach : ℕ) where
   start-empty e = then-yes _ (asked-yes 0 (empty-there look 0 p e)) (then-no _ (not-ensured refl))
 
   module _ (f : look p ≡ Filled) where
-    start-apex : {r : Tally Stop (Unit {0})} → Gives 1 (asked 0 (lookAt look q) >>= λ g. ensure (not g) (stop 6 q 0) >>= λ _. axes look q s (powers reach) (unit0 ∷ unit1 ∷ unit2 ∷ [])) r → Gives 0 (start look s p q reach) r
+    start-apex : {r : Tally Stop Levels} → Gives 1 (asked 0 (lookAt look q) >>= λ g. ensure (not g) (stop 6 q 0) >>= λ _. axes look q s (powers reach)) r → Gives 0 (start look s p q reach) r
     unfolding start
     start-apex h = then-yes _ (asked-yes 0 (filled-there look 0 p f)) (then-yes _ (ensured (stop 5 p 0) refl) h)
 
@@ -39,7 +38,7 @@ module _ (look : Vector → Look) (s p q : Vector) (reach : ℕ) where
     apex-filled : look q ≡ Filled → Gives 0 (start look s p q reach) (no (stop 6 q 0) 2)
     apex-filled e = start-apex (then-yes _ (asked-yes 0 (filled-there look 1 q e)) (then-no _ (not-ensured refl)))
 
-    apex-empty : {r : Tally Stop (Unit {0})} → look q ≡ Empty → Gives 2 (axes look q s (powers reach) (unit0 ∷ unit1 ∷ unit2 ∷ [])) r → Gives 0 (start look s p q reach) r
+    apex-empty : {r : Tally Stop Levels} → look q ≡ Empty → Gives 2 (axes look q s (powers reach)) r → Gives 0 (start look s p q reach) r
     apex-empty e h = start-apex (then-yes _ (asked-yes 0 (empty-there look 1 q e)) (then-yes _ (ensured (stop 6 q 0) refl) h))
 
 -- ---- from what the looks and the axes promised to what the start promises

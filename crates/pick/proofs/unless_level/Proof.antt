@@ -1,0 +1,7 @@
+-- `pick::unless_level` meets its contract: by whether the axis is level.
+use mir.Facts.{toZ-ofZ}
+use Rattle.pick.proofs.unless_level.Statement.{statement}
+use Rattle.pick.proofs.unless_level.Tie as tie
+
+pub unless-level-spec : {M : Type 1} → statement M
+unless-level-spec = tie.close (tie.spec (λ c. rw (c .if1 .taken)) (λ c. rw (c .if1 .left) (toZ-ofZ (c .before .fits .z))))

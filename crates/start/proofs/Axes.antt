@@ -1,0 +1,151 @@
+-- The axes, one by one: minus the unit vector, and only if it does not fall its opposite. An opposite that falls is refusal 7, a point outside refusal 8;
+-- all three level is refusal 7 too.
+use mathlib.Core.Path.{_≡_, refl, ap}
+use mathlib.Core.Bool.{Bool, true, false, not, _&&_}
+use Prim.Native.Nat.{ℕ, _+_, _≤_}
+use native.Mathlib.Omega.{arith}
+use lib.Dec.{lit≤}
+use Rattle.rules.specs.declared.Vector.{Vector}
+use Rattle.rules.specs.declared.Look.{Look}
+use Rattle.rules.specs.declared.Levels.{Levels}
+use Rattle.rules.specs.declared.Refused.{Refused}
+use Rattle.rules.specs.Vectors.{_⊕_, minus, lay, unit0, unit1, unit2}
+use Rattle.rules.specs.Walk.{powers, levels, allLevel, falls, isLevel, axes}
+use Rattle.falls.specs.Tally.{Gives}
+use Rattle.falls.specs.declared.Falls.{Falls}
+use Rattle.falls.specs.declared.Falls.the-variants.{Fell, Kept, Stopped}
+use Rattle.laws.specs.Frames.{Signs}
+use Rattle.laws.specs.Ranges.{Bounded}
+use Rattle.space.specs.Bounds.{bounded-is, bounded-wider, bounded-opposite, bounded-lay}
+use Rattle.falls.specs.Falls.{Fallen, told as toldFalls, looksOf as looksOfFalls}
+use Rattle.falls.proofs.Scenes.{signs-bounded}
+use Rattle.walk.specs.Walk.{refusalOf}
+use Rattle.falls.proofs.Tallies.{then-yes, then-no, asked-yes, asked-no, ensured, not-ensured, at-once}
+use Rattle.start.specs.Start.{axisRefusal, judging, opposite, Opposed, LevelsJudged, MinusAsked, OppositeAsked, AxisJudged, AxesAsked, toldAxis, looksOfAxis}
+use Rattle.start.specs.declared.Axis.{Axis}
+use Rattle.start.specs.declared.Axis.the-variants.{Asked as IsAsked, Refused as AxisRefused}
+use Rattle.start.specs.declared.Start.{Start}
+use Rattle.start.specs.declared.Start.the-variants.{Begun, Refused as IsRefused}
+
+abbrev looksIn : Refused → ℕ
+looksIn r = r .looks
+
+-- what the falls question gave, of the vector w, once its answer is known
+gave : (w : Vector) {look : Vector → Look} {q u : Vector} {reach n : ℕ} {f : Falls} (g : Falls) → Fallen look q u reach n f → u ≡ w → f ≡ g → Gives n (falls look q w (powers reach)) (toldFalls g)
+gave w g h a i = rw (← a, ← i) (h .gives)
+
+-- ---- the opposite, from what the falls question promised
+module _ {look : Vector → Look} {q s : Vector} {reach : ℕ} {e : Vector} {n : ℕ} {f : Falls} {u : Vector} (h : Fallen look q u reach n f) (a : u ≡ lay s e) where
+  pub opposite-fell : {k : ℕ} {r : Refused} → f ≡ Fell k → Opposed q s e k r → OppositeAsked look q s reach e n (AxisRefused r)
+  unfolding opposite
+  opposite-fell {k} i l = record { gives = rw (l .is) (then-yes _ (asked-yes 0 (gave (lay s e) (Fell k) h a i)) (then-no _ (not-ensured refl))); few = omega (arith, h .few, ap looksOfFalls i, ap looksIn (l .is)) }
+
+  pub opposite-kept : {k : ℕ} → f ≡ Kept k → OppositeAsked look q s reach e n (IsAsked true k)
+  unfolding opposite
+  opposite-kept {k} i = record { gives = then-yes _ (asked-yes 0 (gave (lay s e) (Kept k) h a i)) (then-yes _ (ensured (axisRefusal q s e) refl) at-once); few = omega (arith, h .few, ap looksOfFalls i) }
+
+  pub opposite-stopped : {k : ℕ} {p : Vector} {r : Refused} → f ≡ Stopped p k → r ≡ refusalOf 8 p 0 k → OppositeAsked look q s reach e n (AxisRefused r)
+  unfolding opposite
+  opposite-stopped {k} {p} i l = record { gives = rw l (then-no _ (asked-no 0 (gave (lay s e) (Stopped p k) h a i))); few = omega (arith, h .few, ap looksOfFalls i, ap looksIn l) }
+
+pub ruleset opposing = (opposite-fell, opposite-kept, opposite-stopped)
+
+-- ---- one axis, from what the question of minus its unit vector gave
+pub minus-asked : {look : Vector → Look} {q s : Vector} {reach : ℕ} {e : Vector} {n : ℕ} {f : Falls} {u : Vector} → u ≡ lay s (minus e) → Fallen look q u reach n f → MinusAsked look q s reach e n f
+minus-asked a h = record { gives = rw a at (h .gives); few = h .few }
+
+module _ {look : Vector → Look} {q s : Vector} {reach : ℕ} {e : Vector} {f : Falls} where
+  pub axis-fell : {k : ℕ} → f ≡ Fell k → AxisJudged look q s reach e f (IsAsked false k)
+  unfolding isLevel
+  axis-fell i = record { gives = λ h. then-yes _ (asked-yes 0 (rw i at (h .gives))) at-once; few = omega (arith, ap looksOfFalls i) }
+
+  pub axis-kept : {k : ℕ} {r : Axis} → f ≡ Kept k → OppositeAsked look q s reach e k r → AxisJudged look q s reach e f r
+  unfolding isLevel opposite
+  axis-kept i o = record { gives = λ h. then-yes _ (asked-yes 0 (rw i at (h .gives))) (o .gives); few = omega (arith, ap looksOfFalls i, o .few) }
+
+  pub axis-stopped : {k : ℕ} {p : Vector} {r : Refused} → f ≡ Stopped p k → r ≡ refusalOf 8 p 0 k → AxisJudged look q s reach e f (AxisRefused r)
+  unfolding isLevel
+  axis-stopped i l = record { gives = λ h. rw l (then-no _ (asked-no 0 (rw i at (h .gives)))); few = omega (arith, ap looksOfFalls i, ap looksIn l) }
+
+pub ruleset judging-axis = (axis-fell, axis-kept, axis-stopped)
+
+-- ---- refusal 7, from the sum's parts
+pub is-opposed : {q s e u p : Vector} {n : ℕ} {r : Refused} → u ≡ lay s (minus e) → p ≡ q ⊕ u → r ≡ refusalOf 7 p 0 n → Opposed q s e n r
+is-opposed a i l = record { is = rw (← a, ← i) l }
+
+-- ---- all three level, or not
+not-all : (v : Levels) {b : Bool} → (v .x && (v .y && v .z)) ≡ b → not (allLevel v) ≡ not b
+unfolding allLevel
+not-all v e = ap not e
+
+module _ {q s : Vector} (v : Levels) {n : ℕ} where
+  pub judged-level : {r : Refused} → (v .x && (v .y && v .z)) ≡ true → Opposed q s unit0 n r → LevelsJudged q s v n (IsRefused r)
+  unfolding judging
+  judged-level t l = record { gives = rw (l .is) (then-no _ (not-ensured (not-all v t))); few = omega (arith, ap looksIn (l .is)) }
+
+  pub judged-begun : (v .x && (v .y && v .z)) ≡ false → LevelsJudged q s v n (Begun v n)
+  unfolding judging
+  judged-begun t = record { gives = then-yes _ (ensured (axisRefusal q s unit0) (not-all v t)) at-once; few = omega arith }
+
+-- ---- the three axes
+module _ (look : Vector → Look) (q s : Vector) (reach : ℕ) where
+  -- an axis, from its question and the judgement
+  record AxisAsked (e : Vector) (n : ℕ) (r : Axis) : Type 0 where
+    gives : Gives n (isLevel look q s (powers reach) e) (toldAxis r)
+    few : looksOfAxis r ≤ n + 1024
+
+  axis-asked : {e : Vector} {n : ℕ} {f : Falls} {a r : Axis} → MinusAsked look q s reach e n f → AxisJudged look q s reach e f a → a ≡ r → AxisAsked e n r
+  axis-asked h g i = record { gives = rw i at (g .gives h); few = omega (arith, h .few, g .few, ap looksOfAxis i) }
+
+pub axis-few : {look : Vector → Look} {q s e : Vector} {reach n : ℕ} {f : Falls} {a : Axis} {x : Bool} {i : ℕ} → MinusAsked look q s reach e n f → AxisJudged look q s reach e f a → a ≡ IsAsked x i → i ≤ n + 1024
+axis-few {look} {q} {s} {reach = reach} h g i = axis-asked look q s reach h g i .few
+
+module _ {look : Vector → Look} {q s : Vector} {reach n : ℕ} {f : Falls} {a : Axis} (hf : MinusAsked look q s reach unit0 n f) (ha : AxisJudged look q s reach unit0 f a) where
+  pub first-refused : {r : Refused} → a ≡ AxisRefused r → AxesAsked look q s reach n (IsRefused r)
+  unfolding axes
+  first-refused ea = let x = axis-asked look q s reach hf ha ea in record { gives = then-no _ (x .gives); few = omega (arith, x .few) }
+
+  module _ {x : Bool} {i : ℕ} {g : Falls} {b : Axis} (ea : a ≡ IsAsked x i) (hg : MinusAsked look q s reach unit1 i g) (hb : AxisJudged look q s reach unit1 g b) where
+    pub second-refused : {r : Refused} → b ≡ AxisRefused r → AxesAsked look q s reach n (IsRefused r)
+    unfolding axes
+    second-refused eb =
+        let x = axis-asked look q s reach hf ha ea in
+        let y = axis-asked look q s reach hg hb eb in
+        record { gives = then-yes _ (x .gives) (then-no _ (y .gives)); few = omega (arith, x .few, y .few) }
+
+    module _ {y : Bool} {j : ℕ} {h : Falls} {c : Axis} (eb : b ≡ IsAsked y j) (hh : MinusAsked look q s reach unit2 j h) (hc : AxisJudged look q s reach unit2 h c) where
+      pub third-refused : {r : Refused} → c ≡ AxisRefused r → AxesAsked look q s reach n (IsRefused r)
+      unfolding axes
+      third-refused ec =
+          let x = axis-asked look q s reach hf ha ea in
+          let y = axis-asked look q s reach hg hb eb in
+          let z = axis-asked look q s reach hh hc ec in
+          record { gives = then-yes _ (x .gives) (then-yes _ (y .gives) (then-no _ (z .gives))); few = omega (arith, x .few, y .few, z .few) }
+
+      pub axes-judged : {z : Bool} {k : ℕ} {r : Start} → c ≡ IsAsked z k → LevelsJudged q s (levels x y z) k r → AxesAsked look q s reach n r
+      unfolding axes judging
+      axes-judged ec o =
+          let x = axis-asked look q s reach hf ha ea in
+          let y = axis-asked look q s reach hg hb eb in
+          let z = axis-asked look q s reach hh hc ec in
+          record { gives = then-yes _ (x .gives) (then-yes _ (y .gives) (then-yes _ (z .gives) (o .gives))); few = omega (arith, x .few, y .few, z .few, o .few) }
+
+pub ruleset in-turn = (first-refused, second-refused, third-refused, axes-judged)
+
+-- ---- sizes of a unit vector, its opposite, and either laid in
+pub unit-fits : {e : Vector} → Bounded 1 e → Bounded 1000000000 e
+unit-fits h = bounded-wider h (lit≤ tt)
+
+pub unit-way : {e : Vector} → Bounded 1 e → Bounded 2046 e
+unit-way h = bounded-wider h (lit≤ tt)
+
+pub opposite-unit : {e w : Vector} → Bounded 1 e → w ≡ minus e → Bounded 1 w
+opposite-unit h b = bounded-is b (bounded-opposite h)
+
+pub laid-unit : {s e u : Vector} → Signs s → Bounded 1 e → u ≡ lay s e → Bounded 1 u
+laid-unit g h a = bounded-is a (bounded-lay (signs-bounded g) h)
+
+pub laid-opposite : {s e u : Vector} → Signs s → Bounded 1 e → u ≡ lay s (minus e) → Bounded 1 u
+laid-opposite g h a = laid-unit g (bounded-opposite h) a
+
+pub ruleset fitting = (signs-bounded, unit-fits, unit-way, opposite-unit, laid-unit, laid-opposite)

@@ -1,0 +1,3 @@
+-- The axes and the start, question by question.
+pub mod Axes
+pub mod Starts

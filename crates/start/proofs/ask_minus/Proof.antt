@@ -1,0 +1,19 @@
+-- `start::ask_minus` meets its contract: minus the unit vector, laid in, is what `ask_falls` asks.
+use native.Mathlib.Omega.{arith}
+use Rattle.start.proofs.Axes.{fitting, minus-asked}
+use Rattle.start.proofs.ask_minus.Statement.{statement}
+use Rattle.start.proofs.ask_minus.Tie as tie
+
+ask-falls-requires : tie.Need-ask-falls-requires
+ask-falls-requires c κs =
+    let s = c .before .before .before in
+    let g = s .pre .0 .signed in
+    (s .pre .0, search fitting, omega arith)
+
+pub ask-minus-spec : {M : Type 1} → statement M
+ask-minus-spec =
+    tie.close
+    (tie.spec
+    (λ c κs. let s = c .before .before in (s .pre .0 .signed, s .pre .1))
+    ask-falls-requires
+    (λ c. search minus-asked))

@@ -1,0 +1,2 @@
+-- What the start promises.
+pub mod Start

@@ -1,0 +1,151 @@
+// The start: p, q and the axes.
+ghost use mathlib.Core.Path.{_≡_};
+ghost use Prim.Native.Nat.{_≤_};
+ghost use Rattle.rules.specs.Vectors.{minus, lay};
+ghost use Rattle.laws.specs.Ranges.{Bounded};
+ghost use Rattle.laws.specs.Frames.{Signs};
+ghost use Rattle.falls.specs.Scene.{Ready};
+ghost use Rattle.falls.specs.Falls.{looksOf};
+ghost use Rattle.start.specs.Start.{OpposedIn, MinusAskedIn, OppositeAskedIn, AxisJudgedIn, LevelsJudgedIn, AxesAskedIn, StartedIn};
+use falls::Falls;
+use falls::Scene;
+use rules::Levels;
+use rules::Look;
+use rules::Refused;
+use rules::Vector;
+
+// Whether an axis is level, after so many looks; or a refusal.
+pub enum Axis {
+    Asked(bool, u32),
+    Refused(Refused),
+}
+
+// p is filled, q is not and some axis is not level: which are level, after so many looks; or a refusal.
+pub enum Start {
+    Begun(Levels, u32),
+    Refused(Refused),
+}
+
+// Minus the unit vector e, laid in.
+fn lay_minus(s: Vector, e: Vector) -> Vector
+    requires { ⌜ Signs s × Bounded 1 e ⌝ }
+    ensures { λ r. ⌜ r ≡ lay s (minus e) ⌝ }
+{
+    space::lay(s, space::negate(e))
+}
+
+// Refusal 7: q less an axis's unit vector, laid in.
+fn refuse_axis(scene: Scene, e: Vector, looks: u32) -> Refused
+    requires { ⌜ Bounded 1000000000 (scene .apex) × Signs (scene .signs) × Bounded 1 e ⌝ }
+    ensures { λ r. ⌜ OpposedIn scene e looks r ⌝ }
+{
+    let q = scene.apex;
+    let s = scene.signs;
+    let place = space::add(q, lay_minus(s, e));
+    walk::refusal(7, place, 0, looks)
+}
+
+// Whether minus the unit vector e falls.
+fn ask_minus(scene: Scene, bytes: &[u8], e: Vector, looks: u32) -> Falls
+    requires { ⌜ Ready scene (now bytes) × Bounded 1 e × (looks ≤ 4000) ⌝ }
+    ensures { λ r. ⌜ MinusAskedIn scene (now (bytes .entry)) e looks r ⌝ }
+{
+    let s = scene.signs;
+    let u = lay_minus(s, e);
+    falls::ask_falls(scene, bytes, u, looks)
+}
+
+// Minus the unit vector e doesn't fall, so its opposite is asked too: refusal 7 if that falls, else the axis is level.
+fn ask_opposite(scene: Scene, bytes: &[u8], e: Vector, looks: u32) -> Axis
+    requires { ⌜ Ready scene (now bytes) × Bounded 1 e × (looks ≤ 4000) ⌝ }
+    ensures { λ r. ⌜ OppositeAskedIn scene (now (bytes .entry)) e looks r ⌝ }
+{
+    let s = scene.signs;
+    let u = space::lay(s, e);
+    let f = falls::ask_falls(scene, bytes, u, looks);
+    match f {
+        Falls::Fell(n) => {
+            let seven = refuse_axis(scene, e, n);
+            Axis::Refused(seven)
+        }
+        Falls::Kept(n) => Axis::Asked(true, n),
+        Falls::Stopped(p, n) => Axis::Refused(walk::refusal(8, p, 0, n)),
+    }
+}
+
+// Whether the axis of the unit vector e is level, once minus e was asked.
+fn judge_axis(scene: Scene, bytes: &[u8], e: Vector, asked: Falls) -> Axis
+    requires { ⌜ Ready scene (now bytes) × Bounded 1 e × (looksOf asked ≤ 4000) ⌝ }
+    ensures { λ r. ⌜ AxisJudgedIn scene (now (bytes .entry)) e asked r ⌝ }
+{
+    match asked {
+        Falls::Fell(n) => Axis::Asked(false, n),
+        Falls::Kept(n) => ask_opposite(scene, bytes, e, n),
+        Falls::Stopped(p, n) => Axis::Refused(walk::refusal(8, p, 0, n)),
+    }
+}
+
+// Refusal 7, with the place as for axis 0, if all three are level.
+fn judge_levels(scene: Scene, level: Levels, looks: u32) -> Start
+    requires { ⌜ Bounded 1000000000 (scene .apex) × Signs (scene .signs) ⌝ }
+    ensures { λ r. ⌜ LevelsJudgedIn scene level looks r ⌝ }
+{
+    if level.x & (level.y & level.z) {
+        let seven = refuse_axis(scene, Vector { x: 1, y: 0, z: 0 }, looks);
+        Start::Refused(seven)
+    } else {
+        Start::Begun(level, looks)
+    }
+}
+
+// Axis 0, 1, 2. A question and its judgement are two calls: so the questions are compiled in place, and a pick without level axes takes no longer than before there were any.
+fn ask_axes(scene: Scene, bytes: &[u8], looks: u32) -> Start
+    requires { ⌜ Ready scene (now bytes) × (looks ≤ 2) ⌝ }
+    ensures { λ r. ⌜ AxesAskedIn scene (now (bytes .entry)) looks r ⌝ }
+{
+    let e0 = Vector { x: 1, y: 0, z: 0 };
+    let a = judge_axis(scene, bytes, e0, ask_minus(scene, bytes, e0, looks));
+    match a {
+        Axis::Refused(r) => Start::Refused(r),
+        Axis::Asked(x, i) => {
+            let e1 = Vector { x: 0, y: 1, z: 0 };
+            let b = judge_axis(scene, bytes, e1, ask_minus(scene, bytes, e1, i));
+            match b {
+                Axis::Refused(r) => Start::Refused(r),
+                Axis::Asked(y, j) => {
+                    let e2 = Vector { x: 0, y: 0, z: 1 };
+                    let c = judge_axis(scene, bytes, e2, ask_minus(scene, bytes, e2, j));
+                    match c {
+                        Axis::Refused(r) => Start::Refused(r),
+                        Axis::Asked(z, k) => {
+                            let level = Levels { x: x, y: y, z: z };
+                            judge_levels(scene, level, k)
+                        }
+                    }
+                }
+            }
+        }
+    }
+}
+
+// Look at p, then, if p is filled, q; then the axes.
+pub fn start_at(scene: Scene, bytes: &[u8], p: Vector) -> Start
+    requires { ⌜ Ready scene (now bytes) ⌝ }
+    ensures { λ r. ⌜ StartedIn scene (now (bytes .entry)) p r ⌝ }
+{
+    let solid = scene.solid;
+    let q = scene.apex;
+    let at_start = solid::look_at(solid, bytes, p);
+    match at_start {
+        Look::Outside => Start::Refused(walk::refusal(8, p, 0, 0)),
+        Look::Empty => Start::Refused(walk::refusal(5, p, 0, 1)),
+        Look::Filled => {
+            let at_apex = solid::look_at(solid, bytes, q);
+            match at_apex {
+                Look::Outside => Start::Refused(walk::refusal(8, q, 0, 1)),
+                Look::Filled => Start::Refused(walk::refusal(6, q, 0, 2)),
+                Look::Empty => ask_axes(scene, bytes, 2),
+            }
+        }
+    }
+}

@@ -1,0 +1,46 @@
+-- `walk::count_remaining` meets its contract: an axis that is not level is one more of the list.
+use mathlib.Core.Path.{_≡_}
+use mathlib.Core.Bool.{Bool, true, false, not}
+use mathlib.Core.List.{List, []}
+use Prim.Native.Nat.{_+_, _≤_}
+use native.Mathlib.Omega.{arith}
+use lib.Dec.{lit≤}
+use lib.ListN.{length}
+use mir.Val.{boolByte}
+use borrow.Author.Needs.{needs}
+use Rattle.rules.specs.declared.Levels.{Levels}
+use Rattle.rules.specs.Walk.{Axis, axis0, axis1, axis2, keep, only, remaining}
+use Rattle.walk.proofs.count_remaining.Statement.{statement}
+use Rattle.walk.proofs.count_remaining.Tie as tie
+
+at-most-one : (b : Bool) → boolByte b ≤ 1
+at-most-one true = lit≤ tt
+at-most-one false = lit≤ tt
+
+one-more : (b : Bool) (k : Axis) (ks : List Axis) → length (keep b k ks) ≡ boolByte b + length ks
+unfolding keep
+one-more true k ks = omega arith
+one-more false k ks = omega arith
+
+counted : (v : Levels) → boolByte (not (v .x)) + boolByte (not (v .y)) + boolByte (not (v .z)) ≡ length (remaining v)
+unfolding remaining only
+counted v = let z = keep (not (v .z)) axis2 [] in omega (arith, one-more (not (v .x)) axis0 (keep (not (v .y)) axis1 z), one-more (not (v .y)) axis1 z, one-more (not (v .z)) axis2 [])
+
+-- so the sum is at most 3
+module _ (v : Levels) where
+  x-and-y : boolByte (not (v .x)) + boolByte (not (v .y)) ≤ 2
+  x-and-y = omega (arith, at-most-one (not (v .x)), at-most-one (not (v .y)))
+
+  all-three : boolByte (not (v .x)) + boolByte (not (v .y)) + boolByte (not (v .z)) ≤ 3
+  all-three = omega (arith, x-and-y, at-most-one (not (v .z)))
+
+pub count-remaining-spec : {M : Type 1} → statement M
+count-remaining-spec =
+    tie.close
+    (tie.spec
+    (λ c. search needs)
+    (λ c. search needs)
+    (λ c. search needs)
+    (λ c. omega (arith, x-and-y (c .before .before .before .args .level)))
+    (λ c. omega (arith, all-three (c .before .before .before .args .level)))
+    (λ c. counted (c .before .before .before .args .level)))
