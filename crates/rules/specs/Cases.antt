@@ -1,4 +1,5 @@
--- Document 01's cases W1 to W8, with the triangles where it gives them, U1 and U2, and lines of a session that need care: one statement over a list, by evaluation.
+-- Document 01's cases W1 to W8 (W6 as document 02's 2026-01 has it), with the triangles where it gives them, U1 and U2, level faces and small reaches, and lines of a session
+-- that need care: one statement over a list, by evaluation.
 use mathlib.Core.Path.{_≡_, refl}
 use mathlib.Core.Bool.{false}
 use mathlib.Core.List.{List, [], _∷_, map}
