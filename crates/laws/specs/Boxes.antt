@@ -16,17 +16,20 @@ use Rattle.rules.specs.declared.Solid.the-variants.{Wedge as IsWedge, Stack as 
 use Rattle.rules.specs.declared.Look.the-variants.{Outside}
 use Rattle.rules.specs.declared.Triangle.{Triangle}
 use Rattle.rules.specs.declared.Pair.{Pair}
+use Rattle.rules.specs.declared.Choice.{Choice}
 use Rattle.rules.specs.declared.Choice.the-variants.{Chosen}
 use Rattle.rules.specs.Vectors.{vector}
 use Rattle.rules.specs.Asked.{answered}
 use Rattle.rules.specs.Walk.{powers, units, step, round}
 use Rattle.rules.specs.Solids.{between, permittedSize, stackBytes, permittedStack, permitted, box, inSide, inBox, filled, seenAs, look}
 use Rattle.rules.specs.Pick.{isInside}
-use Rattle.laws.specs.Tests.{first-of, second-of}
+use Rattle.laws.specs.Tests.{In, first-of, second-of}
 use Rattle.laws.specs.Parts.{Parts}
 use Rattle.laws.specs.Triples.{All}
 use Rattle.laws.specs.Frames.{Signs}
-use Rattle.laws.specs.Looks.{As}
+use Rattle.laws.specs.Says.{says-answered}
+use Rattle.laws.specs.Looks.{As, round-says}
+use Rattle.laws.specs.Chosen.{chosen-in}
 use Rattle.laws.specs.Ranges.{Between, InCube, Bounded, step-within}
 
 -- ---- a look and the box
@@ -102,15 +105,17 @@ solid-sides (IsStack k) bytes t = let h = stack-sides k bytes t in record { ofX 
 pub solid-cube : (solid : Solid) (bytes : List ℕ) → T (permitted solid bytes) → (p : Vector) → T (isInside (look solid bytes p)) → InCube 1023 p
 solid-cube solid bytes t p i = in-cube 1023 (box solid) p (solid-sides solid bytes t) (rw (look-inside solid bytes p) at i)
 
--- ---- each part of every triangle vector is within 1023 along the walk, on both solids: at the beginning, and after the step that a round chose
+-- ---- each part of every triangle vector is within 1023 along the walk, on both solids: at the beginning, and after a step by a pair that a round asked
 pub units-within : All (Bounded 1023) units
 units-within = record { of0 = small 1 0 0 tt tt tt; of1 = small 0 1 0 tt tt tt; of2 = small 0 0 1 tt tt tt }
   where
     small : (a b c : ℕ) → T (leb a 1023) → T (leb b 1023) → T (leb c 1023) → Bounded 1023 (vector (pos a) (pos b) (pos c))
     small a b c h k l = record { in-x = record { size = lit≤ h }; in-y = record { size = lit≤ k }; in-z = record { size = lit≤ l } }
 
-pub triangle-within : (solid : Solid) (bytes : List ℕ) (q s : Vector) (R : ℕ) (ps : List Pair) (m : Triangle) (x : Pair) {t : List Vector}
-    → T (permitted solid bytes) → T (isInside (look solid bytes q)) → Signs s → round (look solid bytes) q s (powers R) ps m ≡ answered (Chosen x) t
-    → All (Bounded 1023) m → All (Bounded 1023) (step m x)
-triangle-within solid bytes q s R ps m x ok inside signed e h =
-    step-within (look solid bytes) 1023 (solid-cube solid bytes ok) q s (solid-cube solid bytes ok q inside) signed R ps m x e h
+module _ (solid : Solid) (bytes : List ℕ) (q s : Vector) (R : ℕ) (ps : List Pair) (m : Triangle) {t : List Vector} (ok : T (permitted solid bytes)) (inside : T (isInside (look solid bytes q))) (signed : Signs s) where
+  pub triangle-within : {c : Choice} → round (look solid bytes) q s (powers R) ps m ≡ answered c t → All (Bounded 1023) m → (x : Pair) → In x ps → All (Bounded 1023) (step m x)
+  triangle-within e h x i = step-within (look solid bytes) 1023 (solid-cube solid bytes ok) q s (solid-cube solid bytes ok q inside) signed R ps m e h x i
+
+  -- so by the pair that the round chose
+  pub chosen-within : (x : Pair) → round (look solid bytes) q s (powers R) ps m ≡ answered (Chosen x) t → All (Bounded 1023) m → All (Bounded 1023) (step m x)
+  chosen-within x e h = triangle-within e h x (chosen-in (look solid bytes) q s (powers R) m ps x (says-answered (round-says (look solid bytes) q s (powers R) ps m) e .holds))

@@ -1,5 +1,6 @@
--- What holds of each pair that a round asked holds of the pair that it chose.
-use mathlib.Core.Path.{sym, subst}
+-- The pair that a round chose is one of those that it asked.
+use mathlib.Core.Path.{sym, refl, subst}
+use mathlib.Core.Logic.{inl, inr}
 use mathlib.Core.Bool.{Bool, true, false}
 use mathlib.Core.List.{List, [], _∷_}
 use Prim.Native.Nat.{ℕ}
@@ -9,34 +10,25 @@ use Rattle.rules.specs.declared.Look.{Look}
 use Rattle.rules.specs.declared.Triangle.{Triangle}
 use Rattle.rules.specs.declared.Pair.{Pair}
 use Rattle.rules.specs.declared.Choice.the-variants.{Chosen}
-use Rattle.rules.specs.Vectors.{lay}
-use Rattle.rules.specs.Walk.{keep, only, way}
-use Rattle.laws.specs.Tests.{Each}
-use Rattle.laws.specs.Only.{each-all, each-of, only-holds}
+use Rattle.rules.specs.Walk.{keep, only}
+use Rattle.laws.specs.Tests.{Each, In}
+use Rattle.laws.specs.Only.{each-of, only-in}
 use Rattle.laws.specs.Choosing.{Chose, choice-is}
-use Rattle.laws.specs.Looks.{Fell, FellOf, RoundOf}
+use Rattle.laws.specs.Looks.{FellOf, RoundOf}
 
-module _ (look : Vector → Look) (q s : Vector) (ls : List ℕ) (m : Triangle) (P : Pair → Type 0) where
-  -- P of a pair whose question was answered
-  abbrev Asked : Pair → Type 0
-  Asked x = (b : Bool) → Fell look q (lay s (way m x)) ls b → P x
-
-  each-fell : (xs fs : List Pair) → Each Asked xs → FellOf look q s ls m xs fs → Each P fs
+module _ (look : Vector → Look) (q s : Vector) (ls : List ℕ) (m : Triangle) where
+  fell-in : (xs fs : List Pair) → FellOf look q s ls m xs fs → Each (λ x. In x xs) fs
   unfolding keep
-  each-fell [] fs h f = subst (Each P) (sym f) tt
-  each-fell (x ∷ xs) fs h f = subst (Each P) (sym (f .4)) (go (f .0) (h .0 (f .0) (f .2)) (each-fell xs (f .1) (h .1) (f .3)))
+  fell-in [] fs f = subst (Each (λ x. In x [])) (sym f) tt
+  fell-in (x ∷ xs) fs f = subst (Each (λ y. In y (x ∷ xs))) (sym (f .4)) (go (f .0) (each-of (λ y. In y xs) (λ y. In y (x ∷ xs)) (f .1) (λ y i. inr i) (fell-in xs (f .1) (f .3))))
     where
-      go : (b : Bool) → P x → Each P (f .1) → Each P (keep b x (f .1))
-      go true p r = (p, r)
-      go false p r = r
+      go : (b : Bool) → Each (λ y. In y (x ∷ xs)) (f .1) → Each (λ y. In y (x ∷ xs)) (keep b x (f .1))
+      go true r = (inl refl, r)
+      go false r = r
 
-  chosen-of : (ps : List Pair) (x : Pair) → Each Asked ps → RoundOf look q s ls ps m (Chosen x) → P x
-  chosen-of ps x h w = subst (Chose P (Unit {0})) (sym (w .2)) (choice-is P m (w .0) (each-fell ps (w .0) h (w .1)))
+  pub chosen-in : (ps : List Pair) (x : Pair) → RoundOf look q s ls ps m (Chosen x) → In x ps
+  chosen-in ps x w = subst (Chose (λ y. In y ps) (Unit {0})) (sym (w .2)) (choice-is (λ y. In y ps) m (w .0) (fell-in ps (w .0) (w .1)))
 
-  pub chosen-asked : (ps : List Pair) (x : Pair) → ((x : Pair) (b : Bool) → Fell look q (lay s (way m x)) ls b → P x) → RoundOf look q s ls ps m (Chosen x) → P x
-  chosen-asked ps x h w = chosen-of ps x (each-all Asked ps h) w
-
--- of the pairs that a test lets through
-pub chosen-only : (look : Vector → Look) (q s : Vector) (ls : List ℕ) (m : Triangle) (test : Pair → Bool) (xs : List Pair) (x : Pair) → RoundOf look q s ls (only test xs) m (Chosen x) → T (test x)
-chosen-only look q s ls m test xs x w =
-    chosen-of look q s ls m (λ x. T (test x)) (only test xs) x (each-of (λ x. T (test x)) (Asked look q s ls m (λ x. T (test x))) (only test xs) (λ x t b f. t) (only-holds test xs)) w
+  -- so it passes the test that let them through
+  pub chosen-only : (test : Pair → Bool) (xs : List Pair) (x : Pair) → RoundOf look q s ls (only test xs) m (Chosen x) → T (test x)
+  chosen-only test xs x w = only-in test x xs (chosen-in (only test xs) x w)

@@ -13,10 +13,6 @@ use Rattle.rules.specs.Walk.{pairs, keep, only, takesPart}
 use Rattle.laws.specs.Tests.{Each, In}
 
 module _ {A : Type 0} where
-  pub each-all : (P : A → Type 0) (xs : List A) → ((x : A) → P x) → Each P xs
-  each-all P [] f = tt
-  each-all P (x ∷ xs) f = (f x, each-all P xs f)
-
   pub each-of : (P Q : A → Type 0) (xs : List A) → ((x : A) → P x → Q x) → Each P xs → Each Q xs
   each-of P Q [] f h = tt
   each-of P Q (x ∷ xs) f h = (f x (h .0), each-of P Q xs f (h .1))

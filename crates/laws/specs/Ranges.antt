@@ -1,5 +1,5 @@
 -- Ranges, on any look whose box lies in a cube. A round that was answered looked at power 1 of every way it asked, inside the box, where q is too,
--- so the chosen way is within the cube's side, and so is the triangle vector that its step puts in.
+-- so each of these is within the cube's side, and so is the triangle vector that a step by it puts in.
 use mathlib.Core.Path.{_≡_, refl, subst}
 use mathlib.Core.Logic.{inl, inr}
 use mathlib.Core.Bool.{Bool, true, false}
@@ -16,17 +16,17 @@ use Rattle.rules.specs.declared.Vector.{Vector}
 use Rattle.rules.specs.declared.Look.{Look}
 use Rattle.rules.specs.declared.Triangle.{Triangle}
 use Rattle.rules.specs.declared.Pair.{Pair}
-use Rattle.rules.specs.declared.Choice.the-variants.{Chosen}
+use Rattle.rules.specs.declared.Choice.{Choice}
 use Rattle.rules.specs.Vectors.{_⊕_, _⊖_, scale, lay}
 use Rattle.rules.specs.Asked.{answered}
 use Rattle.rules.specs.Walk.{powersFrom, powers, first, second, way, step, round}
 use Rattle.rules.specs.Pick.{isInside}
+use Rattle.laws.specs.Tests.{In}
 use Rattle.laws.specs.Parts.{Parts}
 use Rattle.laws.specs.Triples.{All, all-with}
 use Rattle.laws.specs.Frames.{IsSign, Signs, sign-size}
 use Rattle.laws.specs.Says.{says-answered}
-use Rattle.laws.specs.Looks.{place, Fell, round-says}
-use Rattle.laws.specs.Chosen.{chosen-asked}
+use Rattle.laws.specs.Looks.{place, Fell, FellOf, round-says}
 
 -- 0 to M
 pub record Between (M : ℕ) (z : ℤ) : Type 0 where
@@ -59,14 +59,17 @@ module _ (look : Vector → Look) (q : Vector) where
   fell-first u l ls true (inr f) = rw (f .0) tt
   fell-first u l ls false f = rw (f .0) tt
 
-  -- at power 1 of the way that was chosen
-  pub round-in : (s : Vector) (R : ℕ) (ps : List Pair) (m : Triangle) (x : Pair) {t : List Vector} → round look q s (powers R) ps m ≡ answered (Chosen x) t → IsIn (lay s (way m x)) 1
-  round-in s R ps m x {t} e = go (powers-begin R .0) (subst (λ ls. round look q s ls ps m ≡ answered (Chosen x) t) (powers-begin R .1) e)
+  fell-asked : (s : Vector) (l : ℕ) (ls : List ℕ) (m : Triangle) (xs fs : List Pair) (x : Pair) → In x xs → FellOf look q s (l ∷ ls) m xs fs → IsIn (lay s (way m x)) l
+  fell-asked s l ls m [] fs x i h = absurd i
+  fell-asked s l ls m (y ∷ ys) fs x (inl e) h = rw e (fell-first (lay s (way m y)) l ls (h .0) (h .2))
+  fell-asked s l ls m (y ∷ ys) fs x (inr i) h = fell-asked s l ls m ys (h .1) x i (h .3)
+
+  -- at power 1 of every way that was asked
+  pub round-in : (s : Vector) (R : ℕ) (ps : List Pair) (m : Triangle) {c : Choice} {t : List Vector} → round look q s (powers R) ps m ≡ answered c t → (x : Pair) → In x ps → IsIn (lay s (way m x)) 1
+  round-in s R ps m {c} {t} e x i = go (powers-begin R .0) (subst (λ ls. round look q s ls ps m ≡ answered c t) (powers-begin R .1) e)
     where
-      go : (ls : List ℕ) → round look q s (1 ∷ ls) ps m ≡ answered (Chosen x) t → IsIn (lay s (way m x)) 1
-      go ls e =
-          chosen-asked look q s (1 ∷ ls) m (λ x. IsIn (lay s (way m x)) 1) ps x (λ x b f. fell-first (lay s (way m x)) 1 ls b f)
-          (says-answered (round-says look q s (1 ∷ ls) ps m) e .holds)
+      go : (ls : List ℕ) → round look q s (1 ∷ ls) ps m ≡ answered c t → IsIn (lay s (way m x)) 1
+      go ls e = let w = says-answered (round-says look q s (1 ∷ ls) ps m) e .holds in fell-asked s 1 ls m ps (w .0) x i (w .1)
 
 -- ---- numbers
 near : (M : ℕ) (q s d : ℤ) → IsSign s → Between M q → Between M (q +ℤ pos 1 *ℤ (s *ℤ d)) → Within M d
@@ -93,6 +96,6 @@ module _ (look : Vector → Look) (M : ℕ) (box : (p : Vector) → T (isInside 
       let c = box _ i in
       record { in-x = near M (q .x) (s .x) (u .x) (signed .ofX) (inside .ofX) (c .ofX); in-y = near M (q .y) (s .y) (u .y) (signed .ofY) (inside .ofY) (c .ofY); in-z = near M (q .z) (s .z) (u .z) (signed .ofZ) (inside .ofZ) (c .ofZ) }
 
-  -- after a round that chose x
-  pub step-within : (R : ℕ) (ps : List Pair) (m : Triangle) (x : Pair) {t : List Vector} → round look q s (powers R) ps m ≡ answered (Chosen x) t → All (Bounded M) m → All (Bounded M) (step m x)
-  step-within R ps m x e h = all-with h x (turned-within M (first m x) (second m x) (way-within (way m x) (round-in look q s R ps m x e)))
+  -- after a round that was answered, whatever step is taken by a pair that it asked
+  pub step-within : (R : ℕ) (ps : List Pair) (m : Triangle) {c : Choice} {t : List Vector} → round look q s (powers R) ps m ≡ answered c t → All (Bounded M) m → (x : Pair) → In x ps → All (Bounded M) (step m x)
+  step-within R ps m e h x i = all-with h x (turned-within M (first m x) (second m x) (way-within (way m x) (round-in look q s R ps m e x i)))

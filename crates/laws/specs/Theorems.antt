@@ -17,7 +17,8 @@ use Rattle.rules.specs.declared.Levels.{Levels}
 use Rattle.rules.specs.declared.Triangle.{Triangle}
 use Rattle.rules.specs.declared.Pair.{Pair}
 use Rattle.rules.specs.declared.Pair.the-variants.{P01, P02}
-use Rattle.rules.specs.declared.Choice.the-variants.{Nothing, Chosen}
+use Rattle.rules.specs.declared.Choice.{Choice}
+use Rattle.rules.specs.declared.Choice.the-variants.{Nothing}
 use Rattle.rules.specs.declared.Accepted.{Accepted as AcceptedPick}
 use Rattle.rules.specs.declared.Refused.{Refused as RefusedPick}
 use Rattle.rules.specs.declared.Pick.{Pick}
@@ -27,6 +28,7 @@ use Rattle.rules.specs.Solids.{box, inBox, permitted, look}
 use Rattle.rules.specs.Asked.{answered}
 use Rattle.rules.specs.Walk.{signs, powers, Axis, axis0, axis1, axis2, unit, units, vectorOf, pairs, second, way, step, levels, level, keep, only, remaining, takesPart, determinant, inside, choice, round}
 use Rattle.rules.specs.Pick.{isInside, pickOf}
+use Rattle.laws.specs.Tests.{In}
 use Rattle.laws.specs.Parts.{NonNegative, Positive, part, parts-by}
 use Rattle.laws.specs.Triples.{All, all-by, detOf, step-det}
 use Rattle.laws.specs.Levels as Levels
@@ -75,14 +77,14 @@ not-inside-itself = Choosing.not-inside-itself
 pub best-is-choice : (m : Triangle) → detOf m ≡ pos 1 → (falling : List Pair) → best m Nothing falling ≡ choice m falling
 best-is-choice = Choosing.best-is-choice
 
--- ---- each part of every triangle vector stays within 1023: it does at the beginning, and if it does before a round, it does after the step that the round chose
+-- ---- each part of every triangle vector stays within 1023: it does at the beginning, and if it does before a round that was answered, it does after a step by any pair that the round asked
 pub units-within : All (Bounded 1023) units
 units-within = Boxes.units-within
 
-pub triangle-within : (solid : Solid) (bytes : List ℕ) (q s : Vector) (R : ℕ) (ps : List Pair) (m : Triangle) (x : Pair) {t : List Vector}
-    → T (permitted solid bytes) → T (isInside (look solid bytes q)) → Signs s → round (look solid bytes) q s (powers R) ps m ≡ answered (Chosen x) t
-    → All (Bounded 1023) m → All (Bounded 1023) (step m x)
-triangle-within = Boxes.triangle-within
+pub triangle-within : (solid : Solid) (bytes : List ℕ) (q s : Vector) (R : ℕ) (ps : List Pair) (m : Triangle) {c : Choice} {t : List Vector}
+    → T (permitted solid bytes) → T (isInside (look solid bytes q)) → Signs s → round (look solid bytes) q s (powers R) ps m ≡ answered c t
+    → All (Bounded 1023) m → (x : Pair) → In x ps → All (Bounded 1023) (step m x)
+triangle-within solid bytes q s R ps m ok inside signed = Boxes.triangle-within solid bytes q s R ps m ok inside signed
 
 -- ---- with r remaining axes r(r - 1) pairs take part
 pub pairs-taking : (v : Levels) → length (only (takesPart v) pairs) ≡ length (remaining v) * (length (remaining v) - 1)

@@ -18,7 +18,7 @@ use Rattle.rules.specs.Vectors.{det, cross, dot}
 use Rattle.rules.specs.Solids.{look}
 use Rattle.rules.specs.Walk.{Stop, stop, powers, units, pairs, step, round, walk}
 use Rattle.laws.specs.Triples.{All, detOf, step-det}
-use Rattle.laws.specs.Boxes.{look-inside, units-within, triangle-within}
+use Rattle.laws.specs.Boxes.{look-inside, units-within, chosen-within}
 use Rattle.laws.specs.Ranges.{Bounded}
 use Rattle.falls.specs.Tally.{Tally, yes, no, Gives}
 use Rattle.falls.proofs.Tallies.{then-yes, then-no, asked-yes, asked-no, at-once, refused-at-once, was-answered}
@@ -65,7 +65,7 @@ step-sound : {v : Scene} {bytes : List ℕ} (ps : List Pair) {m : Triangle} {x :
 step-sound {v} {bytes} ps {m} {x} h o g =
     let answer = was-answered (round (look (v .solid) bytes) (v .apex) (v .signs) (powers (v .reach)) ps m) g in
     sound-of
-    (triangle-within (v .solid) bytes (v .apex) (v .signs) (v .reach) ps m x (yes-true (h .permitted .is)) (yes-true (look-inside (v .solid) bytes (v .apex) ∙ h .placed .is)) (h .signed) (answer .1)
+    (chosen-within (v .solid) bytes (v .apex) (v .signs) (v .reach) ps m (yes-true (h .permitted .is)) (yes-true (look-inside (v .solid) bytes (v .apex) ∙ h .placed .is)) (h .signed) x (answer .1)
     record { of0 = o .in0; of1 = o .in1; of2 = o .in2 })
     (step-det m x ∙ o .unimodular)
 
