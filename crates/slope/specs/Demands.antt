@@ -88,7 +88,7 @@ pub record AcceptedWith (n : Vector) (i : Inputs) (a : AcceptedPick) : Type 0 wh
   pub isNormal : a .normal ≡ n
   pub fewSteps : a .steps ≤ size n - remainingOf n
   pub fewLooks : a .looks ≤ 2 + powersOf i * (6 * size n + 6)
-  -- at most 6 - r + r(r - 1)(w + 1 - r) for each power: 5, 2w + 2 and 6w - 9 for one, two and three remaining axes. Each is reached: `NotEmpty`
+  -- at most 6 - r + r(r - 1)(w + 1 - r) for each power: 5, 2w + 2 and 6w - 9 for one, two and three remaining axes. Each is reached, with w = r: `NotEmpty`
   pub fewestLooks : a .looks ≤ 2 + powersOf i * (6 - remainingOf n + remainingOf n * (remainingOf n - 1) * (size n + 1 - remainingOf n))
   pub stays : (k : Axis) → T (level (levelsOf n) k) → vectorOf (a .triangle) k ≡ lay (signsOf i) (unit k)
   pub inPlane : Each (λ g. dot n g ≡ pos 0) (generators (levelsOf n) (a .triangle))
