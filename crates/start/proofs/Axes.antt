@@ -22,8 +22,8 @@ use Rattle.falls.proofs.Scenes.{signs-bounded}
 use Rattle.walk.specs.Walk.{refusalOf}
 use Rattle.falls.proofs.Tallies.{then-yes, then-no, asked-yes, asked-no, ensured, not-ensured, at-once}
 use Rattle.start.specs.Start.{axisRefusal, judging, opposite, Opposed, LevelsJudged, MinusAsked, OppositeAsked, AxisJudged, AxesAsked, toldAxis, looksOfAxis}
-use Rattle.start.specs.declared.Axis.{Axis}
-use Rattle.start.specs.declared.Axis.the-variants.{Asked as IsAsked, Refused as AxisRefused}
+use Rattle.start.specs.declared.AxisAnswer.{AxisAnswer}
+use Rattle.start.specs.declared.AxisAnswer.the-variants.{Asked as IsAsked, Refused as AxisRefused}
 use Rattle.start.specs.declared.Start.{Start}
 use Rattle.start.specs.declared.Start.the-variants.{Begun, Refused as IsRefused}
 
@@ -59,7 +59,7 @@ module _ {look : Vector → Look} {q s : Vector} {reach : ℕ} {e : Vector} {f :
   unfolding isLevel
   axis-fell i = record { gives = λ h. then-yes _ (asked-yes 0 (rw i at (h .gives))) at-once; few = omega (arith, ap looksOfFalls i) }
 
-  pub axis-kept : {k : ℕ} {r : Axis} → f ≡ Kept k → OppositeAsked look q s reach e k r → AxisJudged look q s reach e f r
+  pub axis-kept : {k : ℕ} {r : AxisAnswer} → f ≡ Kept k → OppositeAsked look q s reach e k r → AxisJudged look q s reach e f r
   unfolding isLevel opposite
   axis-kept i o = record { gives = λ h. then-yes _ (asked-yes 0 (rw i at (h .gives))) (o .gives); few = omega (arith, ap looksOfFalls i, o .few) }
 
@@ -90,22 +90,22 @@ module _ {q s : Vector} (v : Levels) {n : ℕ} where
 -- ---- the three axes
 module _ (look : Vector → Look) (q s : Vector) (reach : ℕ) where
   -- an axis, from its question and the judgement
-  record AxisAsked (e : Vector) (n : ℕ) (r : Axis) : Type 0 where
+  record AxisAsked (e : Vector) (n : ℕ) (r : AxisAnswer) : Type 0 where
     gives : Gives n (isLevel look q s (powers reach) e) (toldAxis r)
     few : looksOfAxis r ≤ n + 1024
 
-  axis-asked : {e : Vector} {n : ℕ} {f : Falls} {a r : Axis} → MinusAsked look q s reach e n f → AxisJudged look q s reach e f a → a ≡ r → AxisAsked e n r
+  axis-asked : {e : Vector} {n : ℕ} {f : Falls} {a r : AxisAnswer} → MinusAsked look q s reach e n f → AxisJudged look q s reach e f a → a ≡ r → AxisAsked e n r
   axis-asked h g i = record { gives = rw i at (g .gives h); few = omega (arith, h .few, g .few, ap looksOfAxis i) }
 
-pub axis-few : {look : Vector → Look} {q s e : Vector} {reach n : ℕ} {f : Falls} {a : Axis} {x : Bool} {i : ℕ} → MinusAsked look q s reach e n f → AxisJudged look q s reach e f a → a ≡ IsAsked x i → i ≤ n + 1024
+pub axis-few : {look : Vector → Look} {q s e : Vector} {reach n : ℕ} {f : Falls} {a : AxisAnswer} {x : Bool} {i : ℕ} → MinusAsked look q s reach e n f → AxisJudged look q s reach e f a → a ≡ IsAsked x i → i ≤ n + 1024
 axis-few {look} {q} {s} {reach = reach} h g i = axis-asked look q s reach h g i .few
 
-module _ {look : Vector → Look} {q s : Vector} {reach n : ℕ} {f : Falls} {a : Axis} (hf : MinusAsked look q s reach unit0 n f) (ha : AxisJudged look q s reach unit0 f a) where
+module _ {look : Vector → Look} {q s : Vector} {reach n : ℕ} {f : Falls} {a : AxisAnswer} (hf : MinusAsked look q s reach unit0 n f) (ha : AxisJudged look q s reach unit0 f a) where
   pub first-refused : {r : Refused} → a ≡ AxisRefused r → AxesAsked look q s reach n (IsRefused r)
   unfolding axes
   first-refused ea = let x = axis-asked look q s reach hf ha ea in record { gives = then-no _ (x .gives); few = omega (arith, x .few) }
 
-  module _ {x : Bool} {i : ℕ} {g : Falls} {b : Axis} (ea : a ≡ IsAsked x i) (hg : MinusAsked look q s reach unit1 i g) (hb : AxisJudged look q s reach unit1 g b) where
+  module _ {x : Bool} {i : ℕ} {g : Falls} {b : AxisAnswer} (ea : a ≡ IsAsked x i) (hg : MinusAsked look q s reach unit1 i g) (hb : AxisJudged look q s reach unit1 g b) where
     pub second-refused : {r : Refused} → b ≡ AxisRefused r → AxesAsked look q s reach n (IsRefused r)
     unfolding axes
     second-refused eb =
@@ -113,7 +113,7 @@ module _ {look : Vector → Look} {q s : Vector} {reach n : ℕ} {f : Falls} {a 
         let y = axis-asked look q s reach hg hb eb in
         record { gives = then-yes _ (x .gives) (then-no _ (y .gives)); few = omega (arith, x .few, y .few) }
 
-    module _ {y : Bool} {j : ℕ} {h : Falls} {c : Axis} (eb : b ≡ IsAsked y j) (hh : MinusAsked look q s reach unit2 j h) (hc : AxisJudged look q s reach unit2 h c) where
+    module _ {y : Bool} {j : ℕ} {h : Falls} {c : AxisAnswer} (eb : b ≡ IsAsked y j) (hh : MinusAsked look q s reach unit2 j h) (hc : AxisJudged look q s reach unit2 h c) where
       pub third-refused : {r : Refused} → c ≡ AxisRefused r → AxesAsked look q s reach n (IsRefused r)
       unfolding axes
       third-refused ec =

@@ -16,16 +16,16 @@ use Rattle.falls.specs.declared.Falls.{Falls}
 use Rattle.falls.specs.Tally.{Tally, yes, Gives}
 use Rattle.falls.specs.Falls.{told as toldFalls, looksOf as looksOfFalls}
 use Rattle.walk.specs.Walk.{refusalOf, toldRefusal}
-use Rattle.start.specs.declared.Axis.{Axis}
-use Rattle.start.specs.declared.Axis.the-variants.{Asked as IsAsked, Refused as AxisRefused}
+use Rattle.start.specs.declared.AxisAnswer.{AxisAnswer}
+use Rattle.start.specs.declared.AxisAnswer.the-variants.{Asked as IsAsked, Refused as AxisRefused}
 use Rattle.start.specs.declared.Start.{Start}
 use Rattle.start.specs.declared.Start.the-variants.{Begun, Refused as IsRefused}
 
-abbrev pub toldAxis : Axis → Tally Stop Bool
+abbrev pub toldAxis : AxisAnswer → Tally Stop Bool
 toldAxis (IsAsked b n) = yes b n
 toldAxis (AxisRefused r) = toldRefusal r
 
-abbrev pub looksOfAxis : Axis → ℕ
+abbrev pub looksOfAxis : AxisAnswer → ℕ
 looksOfAxis (IsAsked b n) = n
 looksOfAxis (AxisRefused r) = r .looks
 
@@ -66,12 +66,12 @@ module _ (look : Vector → Look) (q s : Vector) (reach : ℕ) where
     pub gives : Gives looks (falls look q (lay s (minus e)) (powers reach)) (toldFalls r)
     pub few : looksOfFalls r ≤ looks + 512
 
-  pub record OppositeAsked (e : Vector) (looks : ℕ) (r : Axis) : Type 0 where
+  pub record OppositeAsked (e : Vector) (looks : ℕ) (r : AxisAnswer) : Type 0 where
     pub gives : Gives looks (opposite e) (toldAxis r)
     pub few : looksOfAxis r ≤ looks + 512
 
   -- once minus the unit vector e was asked, with the answer f
-  pub record AxisJudged (e : Vector) (f : Falls) (r : Axis) : Type 0 where
+  pub record AxisJudged (e : Vector) (f : Falls) (r : AxisAnswer) : Type 0 where
     pub gives : {looks : ℕ} → MinusAsked e looks f → Gives looks (isLevel look q s (powers reach) e) (toldAxis r)
     pub few : looksOfAxis r ≤ looksOfFalls f + 512
 
@@ -90,10 +90,10 @@ OpposedIn v e looks r = Opposed (v .apex) (v .signs) e looks r
 abbrev pub MinusAskedIn : Scene → List ℕ → Vector → ℕ → Falls → Type 0
 MinusAskedIn v bytes e looks r = MinusAsked (look (v .solid) bytes) (v .apex) (v .signs) (v .reach) e looks r
 
-abbrev pub OppositeAskedIn : Scene → List ℕ → Vector → ℕ → Axis → Type 0
+abbrev pub OppositeAskedIn : Scene → List ℕ → Vector → ℕ → AxisAnswer → Type 0
 OppositeAskedIn v bytes e looks r = OppositeAsked (look (v .solid) bytes) (v .apex) (v .signs) (v .reach) e looks r
 
-abbrev pub AxisJudgedIn : Scene → List ℕ → Vector → Falls → Axis → Type 0
+abbrev pub AxisJudgedIn : Scene → List ℕ → Vector → Falls → AxisAnswer → Type 0
 AxisJudgedIn v bytes e f r = AxisJudged (look (v .solid) bytes) (v .apex) (v .signs) (v .reach) e f r
 
 abbrev pub LevelsJudgedIn : Scene → Levels → ℕ → Start → Type 0

@@ -15,7 +15,7 @@ use rules::Refused;
 use rules::Vector;
 
 // Whether an axis is level, after so many looks; or a refusal.
-pub enum Axis {
+pub enum AxisAnswer {
     Asked(bool, u32),
     Refused(Refused),
 }
@@ -56,7 +56,7 @@ fn ask_minus(scene: Scene, bytes: &[u8], e: Vector, looks: u32) -> Falls
 }
 
 // Minus the unit vector e doesn't fall, so its opposite is asked too: refusal 7 if that falls, else the axis is level.
-fn ask_opposite(scene: Scene, bytes: &[u8], e: Vector, looks: u32) -> Axis
+fn ask_opposite(scene: Scene, bytes: &[u8], e: Vector, looks: u32) -> AxisAnswer
     requires { ⌜ Ready scene (now bytes) × Bounded 1 e × (looks ≤ 4000) ⌝ }
     ensures { λ r. ⌜ OppositeAskedIn scene (now (bytes .entry)) e looks r ⌝ }
 {
@@ -66,22 +66,22 @@ fn ask_opposite(scene: Scene, bytes: &[u8], e: Vector, looks: u32) -> Axis
     match f {
         Falls::Fell(n) => {
             let seven = refuse_axis(scene, e, n);
-            Axis::Refused(seven)
+            AxisAnswer::Refused(seven)
         }
-        Falls::Kept(n) => Axis::Asked(true, n),
-        Falls::Stopped(p, n) => Axis::Refused(walk::refusal(8, p, 0, n)),
+        Falls::Kept(n) => AxisAnswer::Asked(true, n),
+        Falls::Stopped(p, n) => AxisAnswer::Refused(walk::refusal(8, p, 0, n)),
     }
 }
 
 // Whether the axis of the unit vector e is level, once minus e was asked.
-fn judge_axis(scene: Scene, bytes: &[u8], e: Vector, asked: Falls) -> Axis
+fn judge_axis(scene: Scene, bytes: &[u8], e: Vector, asked: Falls) -> AxisAnswer
     requires { ⌜ Ready scene (now bytes) × Bounded 1 e × (looksOf asked ≤ 4000) ⌝ }
     ensures { λ r. ⌜ AxisJudgedIn scene (now (bytes .entry)) e asked r ⌝ }
 {
     match asked {
-        Falls::Fell(n) => Axis::Asked(false, n),
+        Falls::Fell(n) => AxisAnswer::Asked(false, n),
         Falls::Kept(n) => ask_opposite(scene, bytes, e, n),
-        Falls::Stopped(p, n) => Axis::Refused(walk::refusal(8, p, 0, n)),
+        Falls::Stopped(p, n) => AxisAnswer::Refused(walk::refusal(8, p, 0, n)),
     }
 }
 
@@ -106,18 +106,18 @@ fn ask_axes(scene: Scene, bytes: &[u8], looks: u32) -> Start
     let e0 = Vector { x: 1, y: 0, z: 0 };
     let a = judge_axis(scene, bytes, e0, ask_minus(scene, bytes, e0, looks));
     match a {
-        Axis::Refused(r) => Start::Refused(r),
-        Axis::Asked(x, i) => {
+        AxisAnswer::Refused(r) => Start::Refused(r),
+        AxisAnswer::Asked(x, i) => {
             let e1 = Vector { x: 0, y: 1, z: 0 };
             let b = judge_axis(scene, bytes, e1, ask_minus(scene, bytes, e1, i));
             match b {
-                Axis::Refused(r) => Start::Refused(r),
-                Axis::Asked(y, j) => {
+                AxisAnswer::Refused(r) => Start::Refused(r),
+                AxisAnswer::Asked(y, j) => {
                     let e2 = Vector { x: 0, y: 0, z: 1 };
                     let c = judge_axis(scene, bytes, e2, ask_minus(scene, bytes, e2, j));
                     match c {
-                        Axis::Refused(r) => Start::Refused(r),
-                        Axis::Asked(z, k) => {
+                        AxisAnswer::Refused(r) => Start::Refused(r),
+                        AxisAnswer::Asked(z, k) => {
                             let level = Levels { x: x, y: y, z: z };
                             judge_levels(scene, level, k)
                         }
