@@ -2,12 +2,12 @@
 use mathlib.Core.Path.{_≡_, refl, sym, ap, subst, _∙_}
 use mathlib.Core.Bool.{Bool, true, false}
 use mathlib.Core.List.{List}
-use Prim.Native.Nat.{ℕ, zero, suc, _+_, _*_, _-_, _≤_, max}
+use Prim.Native.Nat.{ℕ, _+_, _*_, _-_, _≤_, max}
 use native.Mathlib.Nat as NatL
 use native.Mathlib.Omega.{arith}
 use lib.Dec.{T}
 use lib.ListN.{length}
-use lib.IntN.{ℤ, pos, negsuc, natAbs}
+use lib.IntN.{ℤ, pos, natAbs}
 use lib.Signed.{_≤ℤ_}
 use Rattle.integers.specs.Order.{parts}
 use Rattle.rules.specs.declared.Vector.{Vector}
@@ -26,7 +26,7 @@ use Rattle.rules.specs.Walk.{Stop, stop, powers, Axis, axis0, axis1, axis2, uni
 use Rattle.rules.specs.Pick.{pick, answer, pickOf}
 use Rattle.laws.specs.Parts.{NonNegative, part, part-of, parts-by, scale-one}
 use Rattle.laws.specs.Triples.{detOf, crosses, combined, expand}
-use Rattle.laws.specs.Levels.{isZero, levelsOf, levels-of, levels-eq, part-levelled}
+use Rattle.laws.specs.Levels.{above-zero, isZero, levelsOf, levels-of, levels-eq, part-levelled}
 use Rattle.laws.specs.Flat.{Flat, levelled-dot}
 use Rattle.laws.specs.Generators.{Combines, generators, Products, face-generated}
 use Rattle.laws.specs.Tame.{tame-normal}
@@ -102,9 +102,7 @@ part-as false z h = h
 
 as-zero : (b : Bool) (z : ℤ) → PartAs b z → b ≡ isZero z
 as-zero true z h = rw h refl
-as-zero false (pos zero) h = absurd (omega (arith, parts, h))
-as-zero false (pos (suc k)) h = refl
-as-zero false (negsuc k) h = absurd (h .le)
+as-zero false z h = sym (above-zero z h)
 
 as-upward : (b : Bool) (z : ℤ) → PartAs b z → pos 0 ≤ℤ z
 as-upward true z h = omega (arith, parts, h)

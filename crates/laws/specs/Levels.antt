@@ -106,6 +106,11 @@ not-zero (pos zero) e h = absurd (false≢true (sym e))
 not-zero (pos (suc k)) e h = omega (arith, parts)
 not-zero (negsuc k) e h = absurd (h .le)
 
+pub above-zero : (z : ℤ) → pos 1 ≤ℤ z → isZero z ≡ false
+above-zero (pos zero) h = absurd (omega (arith, parts, h))
+above-zero (pos (suc k)) h = refl
+above-zero (negsuc k) h = absurd (h .le)
+
 abbrev pub levelsOf : Vector → Levels
 levelsOf n = levels (isZero (n .x)) (isZero (n .y)) (isZero (n .z))
 

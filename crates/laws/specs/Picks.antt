@@ -1,5 +1,5 @@
 -- Every pick on every look, by the rules: what its end found, what a refusal tells, and how many looks it takes.
-use mathlib.Core.Path.{_≡_, refl, sym, subst, _∙_}
+use mathlib.Core.Path.{_≡_, refl, sym, _∙_}
 use mathlib.Core.Bool.{Bool, true, false, not}
 use mathlib.Core.List.{List, [], _∷_}
 use Prim.Native.Nat.{ℕ, zero, suc, _+_, _*_, _-_, _≤_, max}
@@ -32,6 +32,7 @@ use Rattle.laws.specs.Next.{Reached, sideways, NextLook, next-look}
 use Rattle.laws.specs.Axes.{AxesOf, levels-answered, AxisRule, axes-says}
 use Rattle.laws.specs.Powers.{looks-add-up, three-most}
 use Rattle.laws.specs.Walks.{WalkRule, walk-says}
+use Rattle.laws.specs.Ranges.{not-outside}
 use Rattle.laws.specs.Boxes.{between-yes}
 
 -- ---- what a refusal tells
@@ -138,9 +139,8 @@ module _ (look : Vector → Look) (p q s : Vector) (R : ℕ) (inside : T (isInsi
   ToldHere = Told look q s R
 
   -- p and q are inside, so refusal 8 is not given there
-  not-outside : (a : Vector) → T (isInside (look a)) → (r : Vector) (n : ℕ) → Few 1 (λ r. (r ≡ a) × IsOutside look a) r n → Few 1 ToldHere (stop 8 r 0) n
-  unfolding isInside
-  not-outside a i r n h = absurd (subst (λ x. T (isInside x)) (h .holds .1) i)
+  inside-looked : (a : Vector) → T (isInside (look a)) → (r : Vector) (n : ℕ) → Few 1 (λ r. (r ≡ a) × IsOutside look a) r n → Few 1 ToldHere (stop 8 r 0) n
+  inside-looked a i r n h = absurd (not-outside look a i (h .holds .1))
 
   axis-rule : (k : Axis) → AxisRule look q s (powers R) ToldHere k
   axis-rule k = record { eight = λ p h. eight look q s R p 0 (none-taken look q s R) h; seven = λ _ _. refuse look q s R 7 _ (omega arith) }
@@ -148,9 +148,9 @@ module _ (look : Vector → Look) (p q s : Vector) (R : ℕ) (inside : T (isInsi
   start-says : Says (λ v n. AxesOf look q s (powers R) v × (n + length (remaining v) * K ≤ 2 + 6 * K)) (Few (2 + 6 * K) ToldHere) (start look s p q R)
   unfolding start
   start-says =
-      says-bind {P = Few 1 _} {G = Few 1 ToldHere} _ _ (says-asked 0 _ (not-outside p (inside .0)) (look-says look p)) (λ r n h. fewer (λ l. omega (arith, l)) h) (λ f m a.
+      says-bind {P = Few 1 _} {G = Few 1 ToldHere} _ _ (says-asked 0 _ (inside-looked p (inside .0)) (look-says look p)) (λ r n h. fewer (λ l. omega (arith, l)) h) (λ f m a.
       says-ensure f _ _ (λ _. record { holds = refuse look q s R 5 p (omega arith); few = omega (arith, a .few) }) (λ _.
-      says-bind {P = Few 1 _} {G = Few 1 ToldHere} _ _ (says-asked 0 _ (not-outside q (inside .1)) (look-says look q)) (λ r n h. fewer (λ l. omega (arith, l, a .few)) h) (λ g n b.
+      says-bind {P = Few 1 _} {G = Few 1 ToldHere} _ _ (says-asked 0 _ (inside-looked q (inside .1)) (look-says look q)) (λ r n h. fewer (λ l. omega (arith, l, a .few)) h) (λ g n b.
       says-ensure (not g) _ _ (λ _. record { holds = refuse look q s R 6 q (omega arith); few = omega (arith, a .few, b .few) }) (λ _.
       says-weaker _ (λ v l h. (h .0, omega (arith, h .1, a .few, b .few))) (λ r l h. fewer (λ k. omega (arith, k, a .few, b .few)) h)
       (axes-says look q s (powers R) axis-rule (λ _. refuse look q s R 7 _ (omega arith)))))))

@@ -14,6 +14,7 @@ use Rattle.integers.specs.Order.{parts, linear, atom, goal, fact}
 use Rattle.integers.specs.Sizes.{Within, sizes, within-linear}
 use Rattle.rules.specs.declared.Vector.{Vector}
 use Rattle.rules.specs.declared.Look.{Look}
+use Rattle.rules.specs.declared.Look.the-variants.{Outside}
 use Rattle.rules.specs.declared.Triangle.{Triangle}
 use Rattle.rules.specs.declared.Pair.{Pair}
 use Rattle.rules.specs.declared.Choice.{Choice}
@@ -43,6 +44,10 @@ pub record Bounded (M : ℕ) (a : Vector) : Type 0 where
   pub in-z : Within M (a .z)
 
 -- ---- what was looked at was inside
+pub not-outside : (look : Vector → Look) (p : Vector) → T (isInside (look p)) → look p ≡ Outside → ⊥
+unfolding isInside
+not-outside look p i e = subst (λ x. T (isInside x)) e i
+
 -- the powers begin with 1
 pub powers-begin : (R : ℕ) → (ls : List ℕ) × (powers R ≡ 1 ∷ ls)
 unfolding powers powersFrom

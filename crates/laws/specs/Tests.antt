@@ -1,7 +1,7 @@
 -- Tests that passed or failed, and what holds of each member of a list.
 use mathlib.Core.Path.{_≡_, refl}
 use mathlib.Core.Logic.{_⊎_, inl, inr}
-use mathlib.Core.Bool.{Bool, true, false, _&&_}
+use mathlib.Core.Bool.{Bool, true, false, not, _&&_}
 use mathlib.Core.List.{List, [], _∷_}
 use lib.Dec.{T}
 use lib.IntN.{ℤ}
@@ -14,6 +14,10 @@ is-true false h = absurd h
 pub is-false : (b : Bool) → (T b → ⊥) → b ≡ false
 is-false true h = absurd (h tt)
 is-false false h = refl
+
+pub is-not : (b : Bool) → T (not b) → b ≡ false
+is-not true h = absurd h
+is-not false h = refl
 
 pub both : (a b : Bool) → T a → T b → T (a && b)
 both true b h k = k

@@ -84,7 +84,7 @@ vectorOf m axis0 = m .m0
 vectorOf m axis1 = m .m1
 vectorOf m axis2 = m .m2
 
--- the triangle with a in the place of m_k
+-- the triangle with a in that place
 abbrev pub withVector : Triangle → Axis → Vector → Triangle
 withVector m axis0 a = triangle a (m .m1) (m .m2)
 withVector m axis1 a = triangle (m .m0) a (m .m2)
@@ -123,6 +123,7 @@ second m x = vectorOf m (to x)
 abbrev pub way : Triangle → Pair → Vector
 way m x = second m x ⊖ first m x
 
+-- the triangle with a in the place of m_k
 abbrev pub with : Triangle → Pair → Vector → Triangle
 with m x a = withVector m (from x) a
 

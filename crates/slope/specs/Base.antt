@@ -1,11 +1,11 @@
 -- Demand 3 as document 01 words it, for normals with three non-zero components: what the base promised, word for word.
--- It is a corollary of `Demands`: `base-demand-3 : Demand3` in `Corollary`, and `base-not-empty` in `Cases`.
+-- It is a corollary of `Demands`: `base-demand-3 : Demand3` in `Corollary`, `base-not-empty : NotEmpty` in `Cases`.
 use mathlib.Core.Path.{_≡_}
 use mathlib.Core.Bool.{not}
 use mathlib.Core.List.{List}
 use Prim.Native.Nat.{ℕ, _+_, _*_, _-_, _≤_}
 use lib.Dec.{T}
-use lib.IntN.{ℤ, pos}
+use lib.IntN.{ℤ, pos, negsuc}
 use lib.Signed.{_≤ℤ_, ltZ}
 use Rattle.rules.specs.declared.Vector.{Vector}
 use Rattle.rules.specs.declared.Wedge.{Wedge}
@@ -22,6 +22,7 @@ use Rattle.rules.specs.Solids.{between, permitted, box, inBox, filled}
 use Rattle.rules.specs.Walk.{way}
 use Rattle.rules.specs.Pick.{WedgePromise, StackPromise}
 use Rattle.laws.specs.Parts.{Positive}
+use Rattle.slope.specs.Stair.{stair, stairBytes}
 use Rattle.slope.specs.Demands.{Inputs, signsOf, powersOf, pickAt, Touched, Same, ofWedge, ofStack, at, line}
 
 -- ---- reach, frame and solid are permitted
@@ -90,6 +91,31 @@ pub record Demand3 : Type 0 where
   pub stackPick : (n : Vector) (t : ℤ) (stack : Stack) (bytes : List ℕ) (p : Vector) (frame reach : ℤ) → OnSlope n t (ofStack stack bytes p frame reach)
       → (r : Pick) → StackPromise stack bytes p frame reach r → Demanded n (ofStack stack bytes p frame reach) r
 
--- ---- not empty: what is assumed holds of W1
+-- ---- not empty: what is assumed holds of W1, W2, W8, of a wedge with a common divisor and of a stack, and the answer is the normal;
+-- it holds of W7, and the answer is 8; and the bound on the looks is reached
+pub record Accepts (n : Vector) (t : ℤ) (i : Inputs) (steps looks : ℕ) : Type 0 where
+  pub onSlope : OnSlope n t i
+  pub answer : AcceptedPick
+  pub is : pickAt i ≡ Accepted answer
+  pub isNormal : answer .normal ≡ n
+  pub stepsAre : answer .steps ≡ steps
+  pub looksAre : answer .looks ≡ looks
+
+pub record Refuses (n : Vector) (t : ℤ) (i : Inputs) : Type 0 where
+  pub onSlope : OnSlope n t i
+  pub answer : RefusedPick
+  pub is : pickAt i ≡ Refused answer
+  pub isEight : answer .number ≡ 8
+
 pub record NotEmpty : Type 0 where
-  pub W1 : OnSlope (vector (pos 1) (pos 2) (pos 5)) (pos 808) (line (pos 1) (pos 2) (pos 5) (pos 808) (at 100) (pos 0) (pos 8))
+  pub W1 : Accepts (vector (pos 1) (pos 2) (pos 5)) (pos 808) (line (pos 1) (pos 2) (pos 5) (pos 808) (at 100) (pos 0) (pos 8)) 5 116
+  pub W2 : Accepts (vector (pos 1) (pos 2) (pos 5)) (pos 801) (line (pos 1) (pos 2) (pos 5) (pos 801) (at 100) (pos 0) (pos 8)) 5 144
+  pub W8 : Accepts (vector (negsuc 0) (pos 2) (pos 5)) (pos 608) (line (negsuc 0) (pos 2) (pos 5) (pos 608) (at 100) (pos 1) (pos 8)) 5 116
+  -- 1615/2 rounded up is 808, so this is W1's slope
+  pub twiceW1 : OnWedge (pos 2) (vector (pos 1) (pos 2) (pos 5)) (record { a = pos 2; b = pos 4; c = pos 10; h = pos 1615 }) (at 100) (pos 0) (pos 8)
+  pub twiceW1Accepts : Accepts (vector (pos 1) (pos 2) (pos 5)) (pos 808) (line (pos 2) (pos 4) (pos 10) (pos 1615) (at 100) (pos 0) (pos 8)) 5 116
+  pub onStack : Accepts (at 1) (pos 12) (ofStack stair stairBytes (at 3) (pos 0) (pos 3)) 0 23
+  pub W7 : Refuses (at 1) (pos 3) (line (pos 1) (pos 1) (pos 1) (pos 3) (at 0) (pos 0) (pos 3))
+  -- all the looks allowed: w = 3 and K = 3, so 2 + K(6w - 9) = 29
+  pub allLooks : Accepts (at 1) (pos 301) (line (pos 1) (pos 1) (pos 1) (pos 301) (at 100) (pos 0) (pos 3)) 0 29
+  pub allowed : 2 + powersOf (line (pos 1) (pos 1) (pos 1) (pos 301) (at 100) (pos 0) (pos 3)) * (6 * size (at 1) - 9) ≡ 29

@@ -27,7 +27,7 @@ use Rattle.laws.specs.Parts.{part, part-scale, part-origin, vector-eq}
 use Rattle.laws.specs.Ranges.{Between}
 use Rattle.laws.specs.Boxes.{in-cube}
 use Rattle.slope.specs.Stair.{stair, row, rows, slices, stairBytes}
-use Rattle.slope.specs.Demands.{Inputs, pickAt, OnSlope, OnWedge, ofStack, at, line, Accepts, Refuses, NotEmpty}
+use Rattle.slope.specs.Demands.{Inputs, signsOf, pickAt, OnSlope, OnWedge, ofStack, at, line, Accepts, Refuses, NotEmpty}
 use Rattle.slope.specs.Base as Base
 use Rattle.slope.specs.Wedges.{multiple-slope}
 
@@ -159,13 +159,32 @@ not-empty = record {
   trianglesDiffer = λ e. let z : pos 1 ≡ negsuc 0 = ap (λ (m : Triangle). m .m0 .x) e in omega (arith, parts);
 }
 
+-- ---- as document 01 has it: the same slopes, whose normals have three non-zero components
+module _ {n : Vector} {t : ℤ} {i : Inputs} (x : T (leZ (pos 1) (lay (signsOf i) n .x))) (y : T (leZ (pos 1) (lay (signsOf i) n .y))) (z : T (leZ (pos 1) (lay (signsOf i) n .z))) (reach : T (between (pos 3) (i .reach) (pos 256))) where
+  base-slope : OnSlope n t i → Base.OnSlope n t i
+  base-slope o = record {
+    permitted = record { permittedReach = reach; permittedFrame = o .permitted .permittedFrame; permittedSolid = o .permitted .permittedSolid };
+    direction = record { signed = record { ofX = leZ-yes x; ofY = leZ-yes y; ofZ = leZ-yes z }; noCommonDivisor = o .direction .noCommonDivisor; withinReach = o .direction .withinReach };
+    filledBelow = o .filledBelow;
+    touched = o .touched;
+  }
+
+  base-accepts : {steps looks : ℕ} → Accepts n t i steps looks → Base.Accepts n t i steps looks
+  base-accepts a = record { onSlope = base-slope (a .onSlope); answer = a .answer; is = a .is; isNormal = a .isNormal; stepsAre = a .stepsAre; looksAre = a .looksAre }
+
+  base-refuses : Refuses n t i → Base.Refuses n t i
+  base-refuses r = record { onSlope = base-slope (r .onSlope); answer = r .answer; is = r .is; isEight = r .isEight }
+
 pub base-not-empty : Base.NotEmpty
-unfolding between permittedWedge lay signs sign size look filledWedge inBox dot _⊕_
+unfolding between lay signs sign size powers powersFrom scale remaining only keep
 base-not-empty = record {
-  W1 = record {
-    permitted = record { permittedReach = tt; permittedFrame = tt; permittedSolid = tt };
-    direction = record { signed = record { ofX = leZ-yes tt; ofY = leZ-yes tt; ofZ = leZ-yes tt }; noCommonDivisor = λ d u h e. no-divisor (vector (pos 1) (pos 2) (pos 5)) axis0 refl d u (omega (arith, parts)) e; withinReach = leZ-yes tt };
-    filledBelow = not-empty .W1 .onSlope .filledBelow;
-    touched = not-empty .W1 .onSlope .touched;
-  };
+  W1 = base-accepts tt tt tt tt (not-empty .W1);
+  W2 = base-accepts tt tt tt tt (not-empty .W2);
+  W8 = base-accepts tt tt tt tt (not-empty .W8);
+  twiceW1 = let o = base-slope tt tt tt tt (not-empty .twiceW1Accepts .onSlope) in record { permitted = o .permitted; direction = o .direction; atLeastOnce = leZ-yes tt; multiple = refl; touched = o .touched };
+  twiceW1Accepts = base-accepts tt tt tt tt (not-empty .twiceW1Accepts);
+  onStack = base-accepts tt tt tt tt (not-empty .onStack);
+  W7 = base-refuses tt tt tt tt (not-empty .W7);
+  allLooks = base-accepts tt tt tt tt (not-empty .allThree);
+  allowed = refl;
 }

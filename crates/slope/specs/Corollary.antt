@@ -1,11 +1,11 @@
 -- Document 01's demand 3 follows from document 02's: a normal with three non-zero components has three remaining axes, and one frame.
 use mathlib.Core.Path.{_≡_, refl, sym, ap, subst, _∙_}
 use mathlib.Core.Bool.{false, false≢true}
-use Prim.Native.Nat.{ℕ, zero, suc, _+_, _*_, _-_, _≤_}
+use Prim.Native.Nat.{ℕ, _+_, _*_, _-_, _≤_}
 use native.Mathlib.Omega.{arith}
 use lib.Dec.{T}
 use lib.ListN.{length}
-use lib.IntN.{ℤ, pos, negsuc, natAbs}
+use lib.IntN.{ℤ, pos, natAbs}
 use lib.Signed.{_≤ℤ_, leZ}
 use Rattle.integers.specs.Order.{parts}
 use Rattle.rules.specs.declared.Vector.{Vector}
@@ -21,7 +21,7 @@ use Rattle.rules.specs.Walk.{Axis, axis0, axis1, axis2, first, second, way, lev
 use Rattle.laws.specs.Tests.{both}
 use Rattle.laws.specs.Parts.{part, part-of, parts-by, dot-difference}
 use Rattle.laws.specs.Triples.{All, all-first, all-second}
-use Rattle.laws.specs.Levels.{isZero, levelsOf}
+use Rattle.laws.specs.Levels.{above-zero, isZero, levelsOf}
 use Rattle.laws.specs.Generators.{Combines, generators, two-sides}
 use Rattle.laws.specs.Frames.{signs-are, lay-lay, lay-part-zero, same-frame}
 use Rattle.laws.specs.Boxes.{between-yes}
@@ -35,11 +35,6 @@ use Rattle.slope.specs.Wedges.{wedge-slope}
 use Rattle.slope.specs.Proved.{demand-3, two-picks}
 
 -- ---- what the base assumes is what document 02 assumes
-above-zero : (z : ℤ) → pos 1 ≤ℤ z → isZero z ≡ false
-above-zero (pos zero) h = absurd (omega (arith, parts, h))
-above-zero (pos (suc k)) h = refl
-above-zero (negsuc k) h = absurd (h .le)
-
 from-1 : (reach : ℤ) → T (between (pos 3) reach (pos 256)) → T (between (pos 1) reach (pos 256))
 unfolding between
 from-1 reach t =

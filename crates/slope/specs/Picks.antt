@@ -20,12 +20,13 @@ use Rattle.rules.specs.Asked.{Asked, answered, _>>_}
 use Rattle.rules.specs.Solids.{permitted, look}
 use Rattle.rules.specs.Walk.{Stop, stop, ensure, powers, Axis, axis0, axis1, axis2, unit, units, pairs, level, allLevel, only, remaining, takesPart, levelled, normal, found, start, rounds}
 use Rattle.rules.specs.Pick.{isInside, pick}
-use Rattle.laws.specs.Tests.{is-false, not-less}
+use Rattle.laws.specs.Tests.{is-true, is-false, is-not, not-less}
 use Rattle.laws.specs.Parts.{part, part-of, part-origin, vector-by-parts, dot-minus, dot-unit}
 use Rattle.laws.specs.Levels.{remains, remaining-count, at-most-3, pairs-taking, isZero, is-zero, not-zero, levelsOf, levels-of, levels-eq, all-level, lowest}
 use Rattle.laws.specs.Flat.{units-flat, raise, raised, Lies}
 use Rattle.laws.specs.Frames.{Signs, signs-are, lay-lay, lay-scale, dot-apex, lay-size, sum-size, lay-part-zero}
 use Rattle.laws.specs.Says.{Says, Few, says-answer, says-weaker, says-bind, few-bind, few-fewer, says-asked, says-ensure}
+use Rattle.laws.specs.Ranges.{not-outside}
 use Rattle.laws.specs.Looks.{As, IsOutside, Fell, look-says}
 use Rattle.laws.specs.Next.{LevelsAnswered}
 use Rattle.laws.specs.Axes.{FellAlong, AxisOf, AxesOf, levels-answered, AxisRule, axes-says}
@@ -64,14 +65,6 @@ raise-sum false z h = refl
 remains-most : (b : Bool) (z : ℤ) → (T (not b) → pos 1 ≤ℤ z) → pos 0 ≤ℤ z → pos (remains b) ≤ℤ z
 remains-most true z h k = k
 remains-most false z h k = h tt
-
-is-true : (b : Bool) → T b → b ≡ true
-is-true true h = refl
-is-true false h = absurd h
-
-is-not : (b : Bool) → T (not b) → b ≡ false
-is-not true h = absurd h
-is-not false h = refl
 
 -- ---- the pick
 module _ (n : Vector) (t : ℤ) (i : Inputs) (o : OnSlope n t i) where
@@ -215,16 +208,15 @@ module _ (n : Vector) (t : ℤ) (i : Inputs) (o : OnSlope n t i) where
   abbrev Stops : Stop → ℕ → Type 0
   Stops e l = EdgeHere e
 
-  not-outside : (b : Bool) (a : Vector) → lookOf a ≡ As b → (p : Vector) (l : ℕ) → Few 1 (λ p. (p ≡ a) × IsOutside lookOf a) p l → Stops (stop 8 p 0) l
-  not-outside true a e p l h = absurd (let z : _≡_ {A = ℕ} 0 1 = cc (sym e ∙ h .holds .1) in omega arith)
-  not-outside false a e p l h = absurd (let z : _≡_ {A = ℕ} 0 1 = cc (sym e ∙ h .holds .1) in omega arith)
+  inside-looked : (a : Vector) → T (isInside (lookOf a)) → (p : Vector) (l : ℕ) → Few 1 (λ p. (p ≡ a) × IsOutside lookOf a) p l → Stops (stop 8 p 0) l
+  inside-looked a i p l h = absurd (not-outside lookOf a i (h .holds .1))
 
   start-says : Says (λ a l. (a ≡ v) × LevelsAnswered lookOf q s (powers R) v × (l + r * K ≤ 2 + 6 * K)) Stops (start lookOf s (i .start) q R)
-  unfolding start
+  unfolding start isInside
   start-says =
-      says-bind {P = Few 1 (λ b. lookOf (i .start) ≡ As b)} {G = Stops} _ _ (says-asked 0 _ (not-outside true (i .start) (o .touched .startFilled)) (look-says lookOf (i .start))) (λ e l h. h) (λ f l h.
+      says-bind {P = Few 1 (λ b. lookOf (i .start) ≡ As b)} {G = Stops} _ _ (says-asked 0 _ (inside-looked (i .start) (rw (o .touched .startFilled) tt)) (look-says lookOf (i .start))) (λ e l h. h) (λ f l h.
       says-ensure f _ _ (λ z. absurd (filled-only f z (sym (h .holds) ∙ o .touched .startFilled))) (λ _.
-      says-bind {P = Few 1 (λ b. lookOf q ≡ As b)} {G = Stops} _ _ (says-asked 0 _ (not-outside false q (o .touched .apexEmpty)) (look-says lookOf q)) (λ e l h. h) (λ f k j.
+      says-bind {P = Few 1 (λ b. lookOf q ≡ As b)} {G = Stops} _ _ (says-asked 0 _ (inside-looked q (rw (o .touched .apexEmpty) tt)) (look-says lookOf q)) (λ e l h. h) (λ f k j.
       says-ensure (not f) _ _ (λ z. absurd (empty-only f z (sym (j .holds) ∙ o .touched .apexEmpty))) (λ _.
       says-weaker _ (λ a z x. (levels-are a (x .0), subst (LevelsAnswered lookOf q s (powers R)) (levels-are a (x .0)) (levels-answered lookOf q s (powers R) (x .0)), asked a l k z (levels-are a (x .0)) (h .few) (j .few) (x .1))) (λ e z x. x .holds)
       (axes-says lookOf q s (powers R) axis-rule (λ h. absurd (not-all h)))))))

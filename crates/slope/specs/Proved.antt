@@ -1,6 +1,6 @@
 -- Demand 3 is proved: each sentence is read off the ideal walk, which an accepted pick on a slope equals.
 use mathlib.Core.Path.{_≡_, refl, sym, ap, subst, _∙_}
-use Prim.Native.Nat.{ℕ, zero, suc, _+_, _*_, _-_, _≤_}
+use Prim.Native.Nat.{ℕ, suc, _+_, _*_, _-_, _≤_, max}
 use native.Mathlib.Nat as NatL
 use native.Mathlib.Omega.{arith}
 use lib.Dec.{T}
@@ -20,6 +20,7 @@ use Rattle.laws.specs.Flat.{Flat, raised}
 use Rattle.laws.specs.Generators.{Combines, generators, Products, generators-in}
 use Rattle.laws.specs.Frames.{signs-are}
 use Rattle.laws.specs.Says.{Few}
+use Rattle.laws.specs.Powers.{three-most}
 use Rattle.laws.specs.Boxes.{outside-box}
 use Rattle.laws.specs.Answers.{laid, laid-of, foundOf, AnswerSays, answer-says, laid-products, laid-generated}
 use Rattle.slope.specs.Demands.{Inputs, signsOf, apexOf, powersOf, pickAt, remainingOf, OnSlope, Demanded, Same, Demand3}
@@ -28,13 +29,9 @@ use Rattle.slope.specs.Picks.{some, few, ideally, fewest, end-even, end-
 use Rattle.slope.specs.Rounds.{Edge}
 use Rattle.slope.specs.Wedges.{wedge-slope}
 
--- 6w + 6 looks a power are enough for any number r of remaining axes
+-- 6w + 6 looks a power are enough for any number r of remaining axes, since three take the most
 asked-few : (r w : ℕ) → 1 ≤ r → r ≤ 3 → r ≤ w → 6 - r + r * (r - 1) * (w + 1 - r) ≤ 6 * w + 6
-asked-few zero w h k l = absurd (omega arith)
-asked-few (suc zero) w h k l = omega arith
-asked-few (suc (suc zero)) w h k l = omega arith
-asked-few (suc (suc (suc zero))) w h k l = omega arith
-asked-few (suc (suc (suc (suc r)))) w h k l = absurd (omega arith)
+asked-few r w h k l = let e : w + 1 - r ≡ suc (w - r) = omega (arith, l) in rw e (omega (arith, h, l, three-most r w (max w 3) h k (omega arith) (omega arith)))
 
 module _ (n : Vector) (t : ℤ) (i : Inputs) (o : OnSlope n t i) where
   abbrev whole : Found
