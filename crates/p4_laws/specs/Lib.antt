@@ -3,6 +3,7 @@ pub mod Judging
 pub mod Stores
 pub mod Rows
 pub mod Scans
+pub mod White
 pub mod Headers
 pub mod Images
 pub mod Places
