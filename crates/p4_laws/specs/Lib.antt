@@ -12,3 +12,5 @@ pub mod ReadBack
 pub mod Looks
 pub mod Trips
 pub mod RoundTrips
+pub mod Base
+pub mod Stays
