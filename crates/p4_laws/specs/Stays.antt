@@ -83,7 +83,7 @@ pub reading-now : (s : List ℕ) (lent : ℕ) → readingBy white s lent ≡ rea
 unfolding readingBy reading contentsBy contents headerBy headerAt fieldBy fieldAt
 reading-now s lent =
     λ j. (headerAt s 0 >>= λ first. images-now 256 (first .width) (first .height) s 0 j >>= λ images. good (record { stack = sizes (first .width) (first .height) (images .0); bytes = images .1 }))
-        >>= λ found. judge (leb (stackBytes (found .stack)) lent) 27 (stackBytes (found .stack)) >>= λ _. good found
+    >>= λ found. judge (leb (stackBytes (found .stack)) lent) 27 (stackBytes (found .stack)) >>= λ _. good found
 
 -- ---- so what was not 22 at a # is as it was
 pub unless-touched : (s : List ℕ) (lent : ℕ) → ((place : ℕ) → readingBy oneWhite s lent ≡ wrong 22 place → getD s place 0 ≡ 35 → ⊥) → readingBy oneWhite s lent ≡ reading s lent
