@@ -293,10 +293,10 @@ pub const READS: &[ReadCase] = &[
     read_3_by_2(b"P4\n3#w\n#x\n 2#h\n\xa0\x40"),
     read_3_by_2(b"P4#a\n#b\n\t3 2\n\xa0\x40"),
     read_3_by_2(b"P4#c\r\n3#w\r\n2\n\xa0\x40"),
-    // No text, # again, digits and the magic in a comment, leading zeros before it.
+    // No text, # again, digits, the magic and bytes that close nothing in a comment; leading zeros.
     read_3_by_2(b"P4\n3 2##\n\xa0\x40"),
     read_3_by_2(b"P4\n3#2\n2#\n\xa0\x40"),
-    read_3_by_2(b"P4#7 7\t\n003#P4\n02# 7\n\xa0\x40"),
+    read_3_by_2(b"P4#7 7\t\n003#P4\n02#\0\x0b\x0c\xff 7\n\xa0\x40"),
     // After the height the next byte is the first row byte, be it LF, # or a space.
     read(b"P4\n3 2#h\r\n\x40", [3, 2, 1], &[0, 0x40, 0xaa]),
     read(b"P4\n3 2#\n#\n", [3, 2, 1], &[0x20, 0, 0xaa]),
