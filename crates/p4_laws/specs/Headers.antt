@@ -1,15 +1,15 @@
 -- What a header that is read holds: sizes in range, and a place of rows inside the input.
-use mathlib.Core.Path.{_≡_, refl, sym, ap, subst, _∙_}
+use mathlib.Core.Path.{_≡_, sym, ap, subst, _∙_}
 use mathlib.Core.Bool.{Bool, true, false, _&&_}
 use mathlib.Core.List.{List}
-use Prim.Native.Nat.{ℕ, _+_, _≤_, _<_}
+use Prim.Native.Nat.{ℕ, _+_, _≤_}
 use native.Mathlib.Omega.{arith}
 use lib.ListN.{length, getD, drop, length-drop}
 use lib.Dec.{leb, ltb, eqb}
-use borrow.Author.Tests.{leb-true, leb-false}
+use borrow.Author.Tests.{leb-true}
 use Rattle.rules.specs.Solids.{sliceBytes}
 use Rattle.rules.specs.P4.{good, isEnd, isWhite, white, mix, digitsAt, Field, fieldAt, Header, headerAt, stands, magic, imageAt}
-use Rattle.p4_laws.specs.White.{Byte, space, hash, other, byte, there, space-reads, other-refused, comment-reads, Ends, comment-ends}
+use Rattle.p4_laws.specs.White.{Byte, isSpace, isHash, isOther, byte, there, space-reads, other-refused, comment-reads, Ends, comment-ends}
 use Rattle.p4_laws.specs.Judging.{made, passed, first-of, second-of}
 
 -- white space that is read is there
@@ -18,17 +18,17 @@ unfolding isWhite isEnd
 white-in s q {i} e = by (byte (getD s q 0))
   where
     by : Byte (getD s q 0) → i ≤ length s
-    by (space w) =
+    by (isSpace w) =
         let n : q + 1 ≡ i = let x = sym (space-reads s q w) ∙ e in cc in
         let l = there s q (λ z. (let y : _≡_ {A = Bool} false true = sym (ap isWhite z) ∙ w in let m : _≡_ {A = ℕ} 0 1 = cc in omega arith)) in
         omega arith
-    by (hash h) =
+    by (isHash h) =
         let k = subst (Ends (drop q s) q) (sym (comment-reads s q h) ∙ e) (comment-ends (drop q s) q) in
         let b = k .1 in
         let l = there s q (λ z. omega arith) in
         let n = length-drop q s in
         omega arith
-    by (other w n) = let x = sym (other-refused s q w n) ∙ e in let z : _≡_ {A = ℕ} 0 1 = cc in absurd (omega arith)
+    by (isOther w n) = let x = sym (other-refused s q w n) ∙ e in let z : _≡_ {A = ℕ} 0 1 = cc in absurd (omega arith)
 
 pub record FieldIn (most : ℕ) (s : List ℕ) (f : Field) : Type 0 where
   pub some : 1 ≤ f .value

@@ -2,7 +2,7 @@
 -- and no 22 is at a #, since a comment is taken wherever white space may stand.
 use mathlib.Core.Path.{_≡_, refl, sym, ap, subst, _∙_}
 use mathlib.Core.Bool.{Bool, true, false, not, _&&_}
-use mathlib.Core.List.{List, [], _∷_, _++_}
+use mathlib.Core.List.{List, [], _∷_}
 use Prim.Native.Nat.{ℕ, zero, suc, _+_, _*_, _-_, _≤_}
 use native.Mathlib.Omega.{arith}
 use lib.Dec.{eqb, leb, ltb}
@@ -10,13 +10,13 @@ use lib.ListN.{length, getD, drop, length-drop, List·getD-eq-default}
 use borrow.Author.Tests.{eqb-true, eqb-false}
 use Rattle.rules.specs.Solids.{sliceBytes}
 use Rattle.rules.specs.Decimals.{isDigit}
-use Rattle.rules.specs.P4.{Judged, good, wrong, _>>=_, judge, stands, magic, isEnd, isWhite, commentAt, white, mix, digitsAt, Field, fieldAt, Header, headerAt, rows, imageAt, imagesAt, sizes, Contents, contents}
-use Rattle.p4_laws.specs.Judging.{first-of, second-of}
+use Rattle.rules.specs.P4.{Judged, good, wrong, _>>=_, judge, stands, magic, isEnd, isWhite, commentAt, white, mix, digitsAt, fieldAt, headerAt, imageAt, imagesAt, contents}
+use Rattle.p4_laws.specs.Judging.{second-of}
 use Rattle.p4_laws.specs.Stores.{dropped}
 use Rattle.p4_laws.specs.Scans.{mix-white, mix-hash, mix-stop, digit-more, digit-stop}
-use Rattle.p4_laws.specs.White.{Byte, space, hash, other, byte, space-reads, other-refused, comment-reads, Ends, comment-ends}
-use Rattle.p4_laws.specs.Headers.{white-in, field-in, header-in, image-in}
-use Rattle.p4_laws.specs.Images.{followed, images-end, images-full, images-more}
+use Rattle.p4_laws.specs.White.{Byte, isSpace, isHash, isOther, byte, space-reads, other-refused, comment-reads, Ends, comment-ends}
+use Rattle.p4_laws.specs.Headers.{white-in, field-in, image-in}
+use Rattle.p4_laws.specs.Images.{images-end, images-more}
 
 -- where a refusal may be
 pub record Placed (s : List ℕ) (number place : ℕ) : Type 0 where
@@ -24,16 +24,16 @@ pub record Placed (s : List ℕ) (number place : ℕ) : Type 0 where
   pub noHash : number ≡ 22 → getD s place 0 ≡ 35 → ⊥
 
 -- a refusal, if it is one, is there
-abbrev AllPlaced : {A : Type 0} → List ℕ → Judged A → Type 0
-AllPlaced s (good a) = Unit {0}
-AllPlaced s (wrong number place) = Placed s number place
+abbrev WellPlaced : {A : Type 0} → List ℕ → Judged A → Type 0
+WellPlaced s (good a) = Unit {0}
+WellPlaced s (wrong number place) = Placed s number place
 
-then : {A B : Type 0} (s : List ℕ) (x : Judged A) (k : A → Judged B) → AllPlaced s x → ((a : A) → x ≡ good a → AllPlaced s (k a)) → AllPlaced s (x >>= k)
+then : {A B : Type 0} (s : List ℕ) (x : Judged A) (k : A → Judged B) → WellPlaced s x → ((a : A) → x ≡ good a → WellPlaced s (k a)) → WellPlaced s (x >>= k)
 unfolding _>>=_
 then s (good a) k h f = f a refl
 then s (wrong n p) k h f = h
 
-judged : {B : Type 0} (s : List ℕ) (t : Bool) (n p : ℕ) (k : Unit {0} → Judged B) → Placed s n p → (t ≡ true → AllPlaced s (k tt)) → AllPlaced s (judge t n p >>= k)
+judged : {B : Type 0} (s : List ℕ) (t : Bool) (n p : ℕ) (k : Unit {0} → Judged B) → Placed s n p → (t ≡ true → WellPlaced s (k tt)) → WellPlaced s (judge t n p >>= k)
 unfolding _>>=_ judge
 judged s true n p k h f = f refl
 judged s false n p k h f = h
@@ -53,13 +53,13 @@ module _ (s : List ℕ) where
   mix-ends true (b ∷ l) i e = let h = mix-ends (not (isEnd b)) l (i + 1) (dropped s i e .1) in (let n = h .0 in omega arith, h .1)
   mix-ends false (b ∷ l) i e = by (byte b) (λ c. mix-ends c l (i + 1) (dropped s i e .1))
     where
-      on : {r : ℕ} → mix false (b ∷ l) i ≡ r → (r ≤ i + 1 + length l) × (getD s r 0 ≡ 35 → ⊥) → (mix false (b ∷ l) i ≤ i + length (b ∷ l)) × (getD s (mix false (b ∷ l) i) 0 ≡ 35 → ⊥)
-      on q h = (let n = h .0 in omega arith, λ x. h .1 (ap (λ (j : ℕ). getD s j 0) (sym q) ∙ x))
+      through : {r : ℕ} → mix false (b ∷ l) i ≡ r → (r ≤ i + 1 + length l) × (getD s r 0 ≡ 35 → ⊥) → (mix false (b ∷ l) i ≤ i + length (b ∷ l)) × (getD s (mix false (b ∷ l) i) 0 ≡ 35 → ⊥)
+      through q h = (let n = h .0 in omega arith, λ x. h .1 (ap (λ (j : ℕ). getD s j 0) (sym q) ∙ x))
 
       by : Byte b → ((c : Bool) → (mix c l (i + 1) ≤ i + 1 + length l) × (getD s (mix c l (i + 1)) 0 ≡ 35 → ⊥)) → (mix false (b ∷ l) i ≤ i + length (b ∷ l)) × (getD s (mix false (b ∷ l) i) 0 ≡ 35 → ⊥)
-      by (space w) h = on (mix-white b l i w) (h false)
-      by (hash x) h = on (mix-hash b l i (ap isWhite x) x) (h true)
-      by (other w n) h = on (mix-stop b l i w n) (omega arith, λ x. n (sym (dropped s i e .0) ∙ x))
+      by (isSpace w) h = through (mix-white b l i w) (h false)
+      by (isHash x) h = through (mix-hash b l i (ap isWhite x) x) (h true)
+      by (isOther w n) h = through (mix-stop b l i w n) (omega arith, λ x. n (sym (dropped s i e .0) ∙ x))
 
 digits-inside : (v : ℕ) (l : List ℕ) (i : ℕ) → digitsAt v l i .1 ≤ i + length l
 unfolding digitsAt
@@ -78,19 +78,19 @@ stands-long (b ∷ w) (c ∷ l) e = let h = stands-long w l (second-of (eqb c b)
 
 -- ---- a header's refusals
 module _ (s : List ℕ) where
-  white-placed : (at : ℕ) → at ≤ length s → AllPlaced s (white s at)
+  white-placed : (at : ℕ) → at ≤ length s → WellPlaced s (white s at)
   white-placed at l = by (byte (getD s at 0))
     where
-      ends : (x : Judged ℕ) → Ends (drop at s) at x → AllPlaced s x
+      ends : (x : Judged ℕ) → Ends (drop at s) at x → WellPlaced s x
       ends (good i) h = tt
       ends (wrong n p) h = subst (Placed s n) (let m = length-drop at s in let e = h .1 in omega arith) (at-end s n)
 
-      by : Byte (getD s at 0) → AllPlaced s (white s at)
-      by (space w) = subst (AllPlaced s) (sym (space-reads s at w)) tt
-      by (hash h) = subst (AllPlaced s) (sym (comment-reads s at h)) (ends (commentAt (drop at s) at) (comment-ends (drop at s) at))
-      by (other w n) = subst (AllPlaced s) (sym (other-refused s at w n)) (record { inside = l; noHash = λ _. n })
+      by : Byte (getD s at 0) → WellPlaced s (white s at)
+      by (isSpace w) = subst (WellPlaced s) (sym (space-reads s at w)) tt
+      by (isHash h) = subst (WellPlaced s) (sym (comment-reads s at h)) (ends (commentAt (drop at s) at) (comment-ends (drop at s) at))
+      by (isOther w n) = subst (WellPlaced s) (sym (other-refused s at w n)) (record { inside = l; noHash = λ _. n })
 
-  field-placed : (most : ℕ) {number : ℕ} → (number ≡ 22 → ⊥) → (at : ℕ) → at ≤ length s → AllPlaced s (fieldAt most number s at)
+  field-placed : (most : ℕ) {number : ℕ} → (number ≡ 22 → ⊥) → (at : ℕ) → at ≤ length s → WellPlaced s (fieldAt most number s at)
   unfolding fieldAt
   field-placed most {number} n at h =
       let first = mix false (drop at s) at in
@@ -102,7 +102,7 @@ module _ (s : List ℕ) where
       (λ _. then s (white s (d .1)) _ (white-placed (d .1) b)
       (λ i _. judged s (leb 1 (d .0) && leb (d .0) most) number first _ (not-22 n a) (λ _. tt)))
 
-  header-placed : (at : ℕ) → at ≤ length s → AllPlaced s (headerAt s at)
+  header-placed : (at : ℕ) → at ≤ length s → WellPlaced s (headerAt s at)
   unfolding headerAt
   header-placed at h =
       judged s (stands magic (drop at s)) 21 at _ (not-22 (λ e. omega arith) h)
@@ -111,28 +111,28 @@ module _ (s : List ℕ) where
       (λ w e₂. then s (fieldAt 256 23 s (w .next)) _ (field-placed 256 (λ e. omega arith) (w .next) (field-in 256 23 s g e₂ .inside)) (λ _ _. tt))))
 
   -- ---- and those of the images
-  image-placed : (w h at : ℕ) → at ≤ length s → AllPlaced s (imageAt w h s at)
+  image-placed : (w h at : ℕ) → at ≤ length s → WellPlaced s (imageAt w h s at)
   unfolding imageAt
   image-placed w h at l =
       then s (headerAt s at) _ (header-placed at l)
       (λ x _. judged s (eqb (x .width) w && eqb (x .height) h) 24 at _ (not-22 (λ e. omega arith) l)
       (λ _. judged s (leb (x .next + sliceBytes w h) (length s)) 25 (length s) _ (at-end s 25) (λ _. tt)))
 
-  images-placed : (k w h at : ℕ) → at ≤ length s → AllPlaced s (imagesAt k w h s at)
+  images-placed : (k w h at : ℕ) → at ≤ length s → WellPlaced s (imagesAt k w h s at)
   unfolding imagesAt
   images-placed zero w h at l = judged s (eqb at (length s)) 26 at _ (not-22 (λ e. omega arith) l) (λ _. tt)
   images-placed (suc k) w h at l = by (eqb at (length s)) refl (images-placed k w h)
     where
-      by : (t : Bool) → eqb at (length s) ≡ t → ((i : ℕ) → i ≤ length s → AllPlaced s (imagesAt k w h s i)) → AllPlaced s (imagesAt (suc k) w h s at)
-      by true t ih = subst (AllPlaced s) (sym (images-end w h s at (suc k) (eqb-true at (length s) t))) tt
+      by : (t : Bool) → eqb at (length s) ≡ t → ((i : ℕ) → i ≤ length s → WellPlaced s (imagesAt k w h s i)) → WellPlaced s (imagesAt (suc k) w h s at)
+      by true t ih = subst (WellPlaced s) (sym (images-end w h s at (suc k) (eqb-true at (length s) t))) tt
       by false t ih =
-          subst (AllPlaced s) (sym (images-more w h s at (eqb-false at (length s) t) k))
+          subst (WellPlaced s) (sym (images-more w h s at (eqb-false at (length s) t) k))
           (then s (imageAt w h s at) _ (image-placed w h at l)
           (λ i e. then s (imagesAt k w h s (i + sliceBytes w h)) _ (ih (i + sliceBytes w h) (image-in w h s at e)) (λ _ _. tt)))
 
   pub placed : {n p : ℕ} → contents s ≡ wrong n p → Placed s n p
   unfolding contents
   placed e =
-      subst (AllPlaced s) e
+      subst (WellPlaced s) e
       (then s (headerAt s 0) _ (header-placed 0 (omega arith))
       (λ f _. then s (imagesAt 256 (f .width) (f .height) s 0) _ (images-placed 256 (f .width) (f .height) 0 (omega arith)) (λ _ _. tt)))

@@ -1,18 +1,18 @@
 -- What document 01's reader answered stays, but for 22 at a #. The two readers differ in the white space required, and there in a # alone:
 -- where that is met the base refuses, and till then both go the same way.
 use mathlib.Core.Path.{_≡_, refl, sym, ap, subst, _∙_}
-use mathlib.Core.Bool.{Bool, true, false, _&&_}
+use mathlib.Core.Bool.{Bool, true, false}
 use mathlib.Core.List.{List, [], _++_}
 use Prim.Native.Nat.{ℕ, zero, suc, _+_}
 use native.Mathlib.Omega.{arith}
-use lib.Dec.{leb, ltb, eqb}
+use lib.Dec.{leb, eqb}
 use lib.ListN.{length, getD, drop}
 use Rattle.rules.specs.declared.Reading.{Reading}
-use Rattle.rules.specs.declared.Reading.the-variants.{Read, Unread}
+use Rattle.rules.specs.declared.Reading.the-variants.{Unread}
 use Rattle.rules.specs.Solids.{sliceBytes, stackBytes}
-use Rattle.rules.specs.P4.{Judged, good, wrong, _>>=_, judge, isEnd, isWhite, white, mix, digitsAt, fieldAt, headerAt, imageAt, imagesAt, rows, sizes, Contents, contents, reading, readAnswer, stored, ReadPromise}
+use Rattle.rules.specs.P4.{Judged, good, wrong, _>>=_, judge, isEnd, isWhite, white, fieldAt, headerAt, imageAt, imagesAt, rows, sizes, Contents, contents, reading, readAnswer, stored, ReadPromise}
 use Rattle.p4_laws.specs.Judging.{off, pass, fail}
-use Rattle.p4_laws.specs.White.{Byte, space, hash, other, byte, space-reads, other-refused}
+use Rattle.p4_laws.specs.White.{Byte, isSpace, isHash, isOther, byte, space-reads, other-refused}
 use Rattle.p4_laws.specs.Base.{fieldBy, headerBy, imageBy, imagesBy, contentsBy, readingBy, oneWhite, BasePromise}
 
 -- the answer stays, or was 22 at a #
@@ -65,9 +65,9 @@ module _ (s : List ℕ) where
   white-stays at = by (byte (getD s at 0))
     where
       by : Byte (getD s at 0) → Stays s (oneWhite s at) (white s at)
-      by (space w) = same (pass 22 at _ w ∙ sym (space-reads s at w))
-      by (hash h) = touched at (fail 22 at _ (ap isWhite h)) h
-      by (other w n) = same (fail 22 at _ w ∙ sym (other-refused s at w n))
+      by (isSpace w) = same (pass 22 at _ w ∙ sym (space-reads s at w))
+      by (isHash h) = touched at (fail 22 at _ (ap isWhite h)) h
+      by (isOther w n) = same (fail 22 at _ w ∙ sym (other-refused s at w n))
 
 -- the reader of `rules/specs/P4` is the one over `white`
 images-now : (left width height : ℕ) (s : List ℕ) (at : ℕ) → imagesBy white left width height s at ≡ imagesAt left width height s at
