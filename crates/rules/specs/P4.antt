@@ -1,4 +1,4 @@
--- Document 01, "P4 stacks", in its order and words. These are definitions: nothing here is proved.
+-- Document 01, "P4 stacks", in its order and words, with document 02's comments that touch (2026-02). These are definitions: nothing here is proved.
 use mathlib.Core.Path.{_≡_}
 use mathlib.Core.Bool.{Bool, true, false, not, _||_, _&&_}
 use mathlib.Core.List.{List, [], _∷_, _++_}
@@ -54,7 +54,7 @@ isEnd b = eqb b 13 || eqb b 10
 unfoldable pub isWhite : ℕ → Bool
 isWhite b = eqb b 32 || (eqb b 9 || isEnd b)
 
--- a comment, in bytes that begin at place `at`: through the next CR or LF, and the place past it.
+-- a comment, in bytes that begin with its # at place `at`: through the next CR or LF, and the place past that.
 -- One that never ends is refused where the bytes end
 unfoldable pub commentAt : List ℕ → ℕ → Judged ℕ
 commentAt [] at = wrong 22 at
