@@ -118,6 +118,11 @@ fn sizes_of([width, height, depth]: [i32; 3]) -> Sizes {
 }
 
 impl Call {
+    /// Whether it reads a file with a comment at once after the first magic.
+    pub fn is_touched(&self) -> bool {
+        matches!(self, Call::Read { text, len, .. } if text[..*len].starts_with(b"P4#"))
+    }
+
     /// What the second program answers.
     pub fn second(&self) -> Answer {
         match self {

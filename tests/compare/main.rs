@@ -60,8 +60,8 @@ const KINDS: &[Kind] = &[
     kind("wedge", 600_000, Calls(wedges::any), "0 1 2 3 4 5 6 7 8 9 10 level1 level2"),
     kind("stack", 80_000, Calls(stacks::any), "0 1 2 3 4 5 6 7 8 9 10 level1 level2"),
     kind("stack_unforeseen", 100_000, Calls(stacks::unforeseen), "0 7 8 9 10 level1 level2"),
-    kind("read", 300_000, Calls(reads::any), "0 21 22 23 24 25 27"),
-    kind("read_header", 200, Calls(reads::headers), "0 21 22 23 24 25 27"),
+    kind("read", 300_000, Calls(reads::any), "0 21 22 23 24 25 27 touching"),
+    kind("read_header", 200, Calls(reads::headers), "0 21 22 23 24 25 27 touching"),
     kind("read_many", 600, Calls(reads::many), "0 21 24 26 27"),
     kind("write", 100_000, Calls(writes::any), "0 3 27"),
     kind("display_small", 31, Calls(displays::small), "0 30"),
@@ -196,7 +196,7 @@ fn compare_batch(
     let mut reply = Reply { text, at: 0 };
     for ((index, call), second) in batch.iter().zip(&answers) {
         let library = call.receive(&mut reply);
-        tally.call(second);
+        tally.call(call, second);
         if *second != library {
             let (ours, theirs) = (second.told(&library), library.told(second));
             let told = format!("{}\nsecond  {ours}\nlibrary {theirs}", call.told());

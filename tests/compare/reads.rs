@@ -26,16 +26,27 @@ fn lent_for(chance: &mut Chance, input: &[u8]) -> Lent {
 
 const WHITE: [u8; 4] = *b" \t\r\n";
 
+/// Now and then left open: what follows is comment too.
 fn comment(chance: &mut Chance) -> Vec<u8> {
     let len = chance.len_to(6);
     let mut text = vec![b'#'];
-    text.extend((0..len).map(|_| chance.one_of(b"#P4 19\tz\0\xff")));
-    text.push(chance.one_of(b"\r\n"));
+    text.extend((0..len).map(|_| chance.one_of(b"#P4 19\tz\0\xff\x0b")));
+    if !chance.percent(3) {
+        text.push(chance.one_of(b"\r\n"));
+    }
     text
 }
 
+/// Where white space is required: one byte of it, or a comment that touches.
+fn required_white_space(chance: &mut Chance, plain: bool) -> Vec<u8> {
+    if !plain && chance.percent(30) {
+        return comment(chance);
+    }
+    vec![chance.one_of(&WHITE)]
+}
+
 fn gap(chance: &mut Chance, plain: bool) -> Vec<u8> {
-    let mut text = vec![chance.one_of(&WHITE)];
+    let mut text = required_white_space(chance, plain);
     let pieces = if plain { 0 } else { chance.below(4) };
     for _ in 0..pieces {
         if chance.percent(50) {
@@ -94,8 +105,17 @@ fn header(chance: &mut Chance, width: i64, height: i64, plain: bool) -> Vec<u8> 
     text.extend(number(chance, width, plain));
     text.extend(gap(chance, plain));
     text.extend(number(chance, height, plain));
-    text.push(chance.one_of(&WHITE));
+    text.extend(required_white_space(chance, plain));
     text
+}
+
+/// Rows of one image; now and then they begin as if the header went on.
+fn rows(chance: &mut Chance, width: i64, height: i64) -> Vec<u8> {
+    let mut rows = chance.bytes(Sizes { width, height, depth: 1 }.slice_bytes());
+    if chance.percent(10) {
+        rows[0] = chance.one_of(b"# \t\r\n1");
+    }
+    rows
 }
 
 fn size(chance: &mut Chance) -> i64 {
@@ -121,7 +141,7 @@ fn file(chance: &mut Chance) -> Vec<u8> {
         let width = if other == 0 { width + 1 } else { width };
         let height = if other == 1 { height + 1 } else { height };
         text.extend(header(chance, width, height, plain));
-        text.extend(chance.bytes(Sizes { width, height, depth: 1 }.slice_bytes()));
+        text.extend(rows(chance, width, height));
     }
     text
 }
@@ -132,21 +152,38 @@ fn damage(chance: &mut Chance, text: &mut Vec<u8>) {
     // Mostly in the front, where the header is.
     let end = if chance.percent(70) { text.len().min(30) } else { text.len() };
     let at = chance.len_to(end.saturating_sub(1));
-    match chance.below(5) {
+    match chance.below(7) {
         0 => text.truncate(at),
         1 => text.insert(at, chance.one_of(&TELLING)),
         2 => text.push(chance.one_of(&TELLING)),
         3 if !text.is_empty() => drop(text.remove(at)),
+        4 | 5 => touch(chance, text, at),
         _ if !text.is_empty() => text[at] = chance.one_of(&TELLING),
         _ => {}
     }
 }
 
+/// A # before the next white space byte, or in its place. Behind the magic or a number it touches.
+fn touch(chance: &mut Chance, text: &mut Vec<u8>, from: usize) {
+    let next = text[from..].iter().position(|byte| WHITE.contains(byte));
+    match next.map(|behind| from + behind) {
+        Some(at) if chance.percent(50) => text.insert(at, b'#'),
+        Some(at) => text[at] = b'#',
+        None => {}
+    }
+}
+
+/// Bytes of a header, and # at once behind a digit.
+const PIECES: [&str; 20] = [
+    "P", "4", "#", "#\n", " ", " ", "\t", "\r", "\n", "\n", "0", "0#", "1", "1", "1", "1#", "2",
+    "2", "2#\r", "x",
+];
+
 /// Bytes that only look like a header.
 fn soup(chance: &mut Chance) -> Vec<u8> {
     let len = chance.len_to(24);
     let mut text = if chance.percent(80) { b"P4".to_vec() } else { Vec::new() };
-    text.extend((0..len).map(|_| chance.one_of(b"P4#  \t\r\n\n011122x")));
+    text.extend((0..len).flat_map(|_| chance.one_of(&PIECES).bytes()));
     text
 }
 
@@ -170,12 +207,11 @@ fn read_of(chance: &mut Chance, text: &[u8], len: usize) -> Call {
 /// One decorated file cut at every byte, then each byte of its header exchanged for every telling one.
 pub fn headers(chance: &mut Chance, _: u64) -> Vec<Call> {
     let (width, height) = (chance.between(1, 12), chance.between(1, 3));
-    let slice = Sizes { width, height, depth: 1 }.slice_bytes();
     let mut text = header(chance, width, height, false);
-    text.extend(chance.bytes(slice));
+    text.extend(rows(chance, width, height));
     text.extend(header(chance, width, height, false));
     let headers = text.len();
-    text.extend(chance.bytes(slice));
+    text.extend(rows(chance, width, height));
     let mut calls: Vec<Call> = (0..=text.len()).map(|len| read_of(chance, &text, len)).collect();
     for at in 0..headers {
         for byte in TELLING {

@@ -1,6 +1,6 @@
 //! How many calls were compared, and which answers came up how often.
 
-use crate::call::Answer;
+use crate::call::{Answer, Call};
 use std::collections::BTreeMap;
 use std::fmt;
 
@@ -11,10 +11,14 @@ pub struct Tally {
 }
 
 impl Tally {
-    /// By its number, an accepted pick also by how many axes are level.
-    pub fn call(&mut self, answer: &Answer) {
+    /// By its number, an accepted pick also by how many axes are level, and an accepted read by a
+    /// comment that touches.
+    pub fn call(&mut self, call: &Call, answer: &Answer) {
         self.calls += 1;
         self.note(&answer.number().to_string(), 1);
+        if answer.number() == 0 && call.is_touched() {
+            self.note("touching", 1);
+        }
         match answer.level_axes() {
             0 => {}
             axes => self.note(&format!("level{axes}"), 1),

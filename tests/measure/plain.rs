@@ -314,24 +314,33 @@ fn is_white(byte: u8) -> bool {
     matches!(byte, b' ' | b'\t' | b'\r' | b'\n')
 }
 
-/// The place after a gap that begins here.
-fn gap(input: &[u8], mut at: usize) -> Result<usize, Read> {
-    if !input.get(at).copied().map_or(false, is_white) {
-        return Err(read_refused(22, at));
+/// The place after a comment that begins here.
+fn comment(input: &[u8], at: usize) -> Result<usize, Read> {
+    let end = input[at..].iter().position(|&byte| byte == b'\r' || byte == b'\n');
+    Ok(at + end.ok_or(read_refused(22, input.len()))? + 1)
+}
+
+/// The place after the white space required here, or after a comment that begins here.
+fn required_white(input: &[u8], at: usize) -> Result<usize, Read> {
+    match input.get(at) {
+        Some(b'#') => comment(input, at),
+        Some(&byte) if is_white(byte) => Ok(at + 1),
+        _ => Err(read_refused(22, at)),
     }
+}
+
+/// The place after the rest of a gap.
+fn rest_of_gap(input: &[u8], mut at: usize) -> Result<usize, Read> {
     loop {
         match input.get(at) {
-            Some(b'#') => {
-                let end = input[at..].iter().position(|&byte| byte == b'\r' || byte == b'\n');
-                at += end.ok_or(read_refused(22, input.len()))? + 1;
-            }
+            Some(b'#') => at = comment(input, at)?,
             Some(&byte) if is_white(byte) => at += 1,
             _ => return Ok(at),
         }
     }
 }
 
-/// A size and the place of the white space after it.
+/// A size and the place after the white space behind it.
 fn size(input: &[u8], first: usize) -> Result<(usize, usize), Read> {
     let mut at = first;
     let mut value = 0;
@@ -339,13 +348,14 @@ fn size(input: &[u8], first: usize) -> Result<(usize, usize), Read> {
         value = (value * 10 + usize::from(digit - b'0')).min(1000);
         at += 1;
     }
-    if at == first || !input.get(at).copied().map_or(false, is_white) {
+    if at == first {
         return Err(read_refused(22, at));
     }
+    let behind = required_white(input, at)?;
     if !(1..=256).contains(&value) {
         return Err(read_refused(23, first));
     }
-    Ok((value, at))
+    Ok((value, behind))
 }
 
 /// Width, height and the place of the rows.
@@ -353,9 +363,10 @@ fn header(input: &[u8], at: usize) -> Result<(usize, usize, usize), Read> {
     if !input[at..].starts_with(b"P4") {
         return Err(read_refused(21, at));
     }
-    let (width, at) = size(input, gap(input, at + 2)?)?;
-    let (height, at) = size(input, gap(input, at)?)?;
-    Ok((width, height, at + 1))
+    let at = required_white(input, at + 2)?;
+    let (width, at) = size(input, rest_of_gap(input, at)?)?;
+    let (height, at) = size(input, rest_of_gap(input, at)?)?;
+    Ok((width, height, at))
 }
 
 /// Where the rows of each image begin, and the sizes.

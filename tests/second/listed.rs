@@ -225,6 +225,11 @@ const fn read(input: &'static [u8], sizes: [i64; 3], rows: &'static [u8]) -> Rea
     ReadCase { input, answer: Ok(sizes), rows }
 }
 
+/// Width 3, height 2 and the rows A0 40.
+const fn read_3_by_2(input: &'static [u8]) -> ReadCase {
+    read(input, [3, 2, 1], &[0xa0, 0x40, 0xaa])
+}
+
 pub const READS: &[ReadCase] = &[
     // Listed by document 01.
     refused(b"", 21, 0),
@@ -252,17 +257,17 @@ pub const READS: &[ReadCase] = &[
     refused(b"P4 18446744073709551617 1\n\0", 23, 3),
     refused(b"P4 1 4294967297\n\0", 23, 5),
     read(b"P4 00000000000000000000001 01\n\x80", [1, 1, 1], &[128, 0xaa, 0xaa]),
-    // Gaps and comments.
+    // Gaps and comments. Four of them touch, and are as 2026-02 changes them.
     refused(b"P", 21, 0),
     refused(b"p4 1 1\n\0", 21, 0),
     refused(b"P4", 22, 2),
-    refused(b"P4#\n1 1\n\0", 22, 2),
+    read(b"P4#\n1 1\n\0", [1, 1, 1], &[0, 0xaa, 0xaa]),
     refused(b"P4 #", 22, 4),
     refused(b"P4 # 1 1 ", 22, 9),
-    refused(b"P4 1#\n1\n\0", 22, 4),
-    refused(b"P4 1 1#\n\0", 22, 6),
+    read(b"P4 1#\n1\n\0", [1, 1, 1], &[0, 0xaa, 0xaa]),
+    read(b"P4 1 1#\n\0", [1, 1, 1], &[0, 0xaa, 0xaa]),
     refused(b"P4 -1 1\n\0", 22, 3),
-    refused(b"P4\t#a\r#b\n\r\n2#", 22, 12),
+    refused(b"P4\t#a\r#b\n\r\n2#", 22, 13),
     read(b"P4\t#a\r#b\n\r\n2 #\n 2\t\xff\x7f", [2, 2, 1], &[0xc0, 0x40, 0xaa]),
     // CR LF after the height: the LF is row data.
     read(b"P4\r\n1 1\r\n", [1, 1, 1], &[0, 0xaa]),
@@ -277,6 +282,60 @@ pub const READS: &[ReadCase] = &[
     ReadCase { input: b"P4 9 2\n1234", answer: Err((27, 4)), rows: &[0xaa; 3] },
     ReadCase { input: b"P4 9 2\n1234P", answer: Err((21, 11)), rows: &[] },
     read(b"P4 9 2\n1234", [9, 2, 1], b"1\x003\x00"),
+    // Comments that touch (2026-02): after the magic, the width, the height.
+    read_3_by_2(b"P4#c\n3 2\n\xa0\x40"),
+    read_3_by_2(b"P4#c\r3 2\n\xa0\x40"),
+    read_3_by_2(b"P4\n3#w\n2\n\xa0\x40"),
+    read_3_by_2(b"P4\n3#w\r2\n\xa0\x40"),
+    read_3_by_2(b"P4\n3 2#h\n\xa0\x40"),
+    read_3_by_2(b"P4\n3 2#h\r\xa0\x40"),
+    // The rest of a gap may follow.
+    read_3_by_2(b"P4\n3#w\n#x\n 2#h\n\xa0\x40"),
+    read_3_by_2(b"P4#a\n#b\n\t3 2\n\xa0\x40"),
+    read_3_by_2(b"P4#c\r\n3#w\r\n2\n\xa0\x40"),
+    // No text, # again, digits, the magic and bytes that close nothing in a comment; leading zeros.
+    read_3_by_2(b"P4\n3 2##\n\xa0\x40"),
+    read_3_by_2(b"P4\n3#2\n2#\n\xa0\x40"),
+    read_3_by_2(b"P4#7 7\t\n003#P4\n02#\0\x0b\x0c\xff 7\n\xa0\x40"),
+    // After the height the next byte is the first row byte, be it LF, # or a space.
+    read(b"P4\n3 2#h\r\n\x40", [3, 2, 1], &[0, 0x40, 0xaa]),
+    read(b"P4\n3 2#\n#\n", [3, 2, 1], &[0x20, 0, 0xaa]),
+    read(b"P4\n3 2#\n \x40", [3, 2, 1], &[0x20, 0x40, 0xaa]),
+    refused(b"P4\n3 2 #h\n", 21, 9),
+    refused(b"P4\n3 2#h\n\xa0", 25, 10),
+    refused(b"P4\n3 2#h\r\n", 25, 10),
+    refused(b"P4\n3 2#h\n\xa0\x40\n", 21, 11),
+    // One that never ends: a space or TAB does not close it, and no number is judged.
+    refused(b"P4#", 22, 3),
+    refused(b"P4#c", 22, 4),
+    refused(b"P4\n3#w", 22, 6),
+    refused(b"P4\n3#w 2\t\xa0\x40", 22, 11),
+    refused(b"P4\n3 2#h", 22, 8),
+    refused(b"P4\n3 2#\xa0\x40", 22, 9),
+    refused(b"P4\n0#w", 22, 6),
+    refused(b"P4\n3 300#h", 22, 10),
+    // A number is judged once the line end was seen, before the rest of the gap.
+    refused(b"P4\n0#w\n", 23, 3),
+    refused(b"P4\n300#w\n2#h\n", 23, 3),
+    refused(b"P4\n0#w\r#", 23, 3),
+    refused(b"P4\n3 0#h\r", 23, 5),
+    // Wrong bytes beside a comment; the magic is two bytes.
+    refused(b"P4x", 22, 2),
+    refused(b"P4x#\n3 2\n\xa0\x40", 22, 2),
+    refused(b"P#\n4 3 2\n\xa0\x40", 21, 0),
+    refused(b"P4#a\nx", 22, 5),
+    refused(b"P4#a\n#b", 22, 7),
+    refused(b"P4\n3x#w\n", 22, 4),
+    refused(b"P4\n3#w\n", 22, 7),
+    // Several images with them.
+    read(b"P4\n3 2#h\n\xa0\x40P4#z\n3#\n2#\n\x20\xc0", [3, 2, 2], &[0xa0, 0x40, 0x20, 0xc0]),
+    refused(b"P4 1 1\n\xffP4#\n2#\n1#\n\xff", 24, 8),
+    refused(b"P4#\n1 1\n\xffP4 1 2#h\n\xff\xff", 24, 9),
+    refused(b"P4 1 1\n\xffP4\n2 1#", 22, 15),
+    refused(b"P4 1 1\n\xffP4#\n0#\n", 23, 12),
+    refused(b"P4 1 1\n\xffP4#\n1#\n1#\n", 25, 18),
+    refused(b"P4#\n1#\n1#\n\xff\n", 21, 11),
+    refused(b"P4#\n9#\n2#\n1234", 27, 4),
 ];
 
 /// One call of the writer. The lent buffer holds 0xAA all over before it.

@@ -44,8 +44,11 @@ impl<'a> Reader<'a> {
         Ok(())
     }
 
-    fn one_white_space(&mut self) -> Result<(), Refusal> {
+    /// The white space required here: one byte of it, or a comment that begins here, whose line
+    /// end counts as that byte.
+    fn required_white_space(&mut self) -> Result<(), Refusal> {
         match self.next() {
+            Some(b'#') => self.comment(),
             Some(byte) if white_space(byte) => {
                 self.at += 1;
                 Ok(())
@@ -54,8 +57,8 @@ impl<'a> Reader<'a> {
         }
     }
 
-    fn gap(&mut self) -> Result<(), Refusal> {
-        self.one_white_space()?;
+    /// Any mix of white space and comments.
+    fn rest_of_gap(&mut self) -> Result<(), Refusal> {
         while let Some(byte) = self.next() {
             if byte == b'#' {
                 self.comment()?;
@@ -79,27 +82,28 @@ impl<'a> Reader<'a> {
         self.wrong()
     }
 
-    /// Digits, judged once the white space after them was seen.
+    /// Digits and the white space after them; judged once that was seen.
     fn number(&mut self) -> Result<i64, Refusal> {
         let first = self.at;
         while self.next().map_or(false, |byte| byte.is_ascii_digit()) {
             self.at += 1;
         }
         let digits = &self.input[first..self.at];
-        if digits.is_empty() || !self.next().map_or(false, white_space) {
+        if digits.is_empty() {
             return self.wrong();
         }
+        self.required_white_space()?;
         size_of_digits(digits).ok_or(refusal(23, first))
     }
 
     /// Width and height of one image; the rows are next.
     fn header(&mut self) -> Result<(i64, i64), Refusal> {
         self.magic()?;
-        self.gap()?;
+        self.required_white_space()?;
+        self.rest_of_gap()?;
         let width = self.number()?;
-        self.gap()?;
+        self.rest_of_gap()?;
         let height = self.number()?;
-        self.one_white_space()?;
         Ok((width, height))
     }
 

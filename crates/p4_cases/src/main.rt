@@ -1,4 +1,4 @@
-// Document 01's listed cases of P4 stacks, and its rules at their edges. `stdout` was written from its words.
+// Document 01's listed cases of P4 stacks, its rules at their edges, and document 02's comments that touch. `stdout` was written from their words.
 use libc::STDOUT_FILENO;
 use rules::Stack;
 
@@ -67,6 +67,33 @@ fn header_cases() {
     read_four(b"P4 9 1 \xff\xff");
 }
 
+// Comments that touch the magic, the width or the height (2026-02).
+fn touching_cases() {
+    read_four(b"P4#c\n3 2\n\xa0\x40");
+    read_four(b"P4#c\r3 2\n\xa0\x40");
+    read_four(b"P4\n3#w\n2\n\xa0\x40");
+    read_four(b"P4\n3#w\n#x\n 2#h\n\xa0\x40");
+    read_four(b"P4#a\n#b\n\t3 2\n\xa0\x40");
+    read_four(b"P4\n3 2##\n\xa0\x40");
+    read_four(b"P4\n3#2\n2#\n\xa0\x40");
+    read_four(b"P4\n3 2#h\n\xa0\x40P4#z\n3#\n2#\n\x20\xc0");
+}
+
+// After the height one line end, and no more; and what of comments is refused.
+fn touching_edges() {
+    read_four(b"P4\n3 2#h\r\n\x40");
+    read_four(b"P4\n3 2 #h\n");
+    read_four(b"P4#");
+    read_four(b"P4#c");
+    read_four(b"P4\n3 2#h");
+    read_four(b"P4\n0#w");
+    read_four(b"P4\n0#w\n");
+    read_four(b"P4\n300#w\n2#h\n");
+    read_four(b"P4#a\nx");
+    read_four(b"P4x");
+    read_four(b"P4\n3 2#h\n\xa0");
+}
+
 // A second image, and a buffer too short.
 fn image_cases() {
     read_four(b"P4 1 1 \xffP4\n01 #\n1\n\x7f");
@@ -125,6 +152,8 @@ fn writer_cases() {
 fn main() {
     listed_cases();
     header_cases();
+    touching_cases();
+    touching_edges();
     image_cases();
     long_cases();
     writer_cases();

@@ -8,6 +8,7 @@ use lib.ListN.{length, getD, drop, List·getD-eq-default}
 use lib.Dec.{leb, ltb}
 use borrow.Author.Tests.{le-leb, lt-leb, leb-true, leb-false, lt-ltb, le-ltb, not-true, not-false}
 use Rattle.rules.specs.P4.{Judged, good, wrong, _>>=_, _>>_, judge, isEnd, isWhite, magic, white, digitsAt, Field, fieldAt, headerAt}
+use Rattle.p4_laws.specs.White.{space-reads, comment-reads, other-refused}
 use Rattle.p4_laws.specs.Judging.{on, off, pass, fail, both, not-first, not-second}
 use Rattle.p4_header.specs.declared.PlaceRead.{PlaceRead}
 use Rattle.p4_header.specs.declared.PlaceRead.the-variants.{At, NotAt}
@@ -15,21 +16,22 @@ use Rattle.p4_header.specs.declared.FieldRead.{FieldRead}
 use Rattle.p4_header.specs.declared.FieldRead.the-variants.{Value, NoValue}
 use Rattle.p4_header.specs.declared.HeaderRead.{HeaderRead}
 use Rattle.p4_header.specs.declared.HeaderRead.the-variants.{Sizes, NoSizes}
-use Rattle.p4_header.specs.Reads.{place, field, sizesAt, Stands, White, Mix, Digits, FieldIs, SizesAre, HeaderIs}
+use Rattle.p4_header.specs.Reads.{place, field, sizesAt, Stands, Comment, White, Mix, Digits, FieldIs, SizesAre, HeaderIs}
 
--- ---- a white space byte
+-- ---- the white space required
 module _ (s : List ℕ) (at : ℕ) where
-  pub white-there : {r : Bool} → r ≡ isWhite (getD s at 0) → r ≡ true → White s at (At (at + 1))
-  unfolding white
-  white-there f t = record { is = sym (pass 22 at _ (sym f ∙ t)) }
+  pub white-space : {r : Bool} → r ≡ isWhite (getD s at 0) → r ≡ true → White s at (At (at + 1))
+  white-space f t = record { is = sym (space-reads s at (sym f ∙ t)) }
 
-  pub white-not : {r : Bool} → r ≡ isWhite (getD s at 0) → r ≡ false → White s at (NotAt 22 at)
-  unfolding white
-  white-not f t = record { is = sym (fail 22 at _ (sym f ∙ t)) }
+  pub white-comment : getD s at 0 ≡ 35 → {c : PlaceRead} → Comment s at c → White s at c
+  white-comment h C = record { is = C .is ∙ sym (comment-reads s at h) }
+
+  pub white-other : {r : Bool} → r ≡ isWhite (getD s at 0) → r ≡ false → (getD s at 0 ≡ 35 → ⊥) → White s at (NotAt 22 at)
+  white-other f t n = record { is = sym (other-refused s at (sym f ∙ t) n) }
 
   pub white-past : length s ≤ at → White s at (NotAt 22 at)
-  unfolding white isWhite isEnd
-  white-past l = record { is = sym (fail 22 at _ (ap isWhite (List·getD-eq-default s 0 l))) }
+  unfolding isWhite isEnd
+  white-past l = let z = List·getD-eq-default s 0 l in record { is = sym (other-refused s at (ap isWhite z) (λ h. omega arith)) }
 
 -- ---- a field: from its digits on
 digitsFrom : ℕ → ℕ → List ℕ → ℕ → ℕ × ℕ → Judged Field

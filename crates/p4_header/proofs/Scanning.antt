@@ -9,10 +9,11 @@ use lib.ListN.{length, getD, drop, drop-of-length-le}
 use lib.Dec.{eqb}
 use borrow.Author.Tests.{eq-eqb, ne-eqb, not-true, not-false}
 use Rattle.rules.specs.Decimals.{isDigit}
-use Rattle.rules.specs.P4.{isEnd, isWhite, stands, mix, digitsAt}
+use Rattle.rules.specs.P4.{isEnd, isWhite, stands, commentAt, mix, digitsAt}
 use Rattle.p4_laws.specs.Stores.{drop-here}
-use Rattle.p4_laws.specs.Scans.{mix-in, mix-white, mix-hash, mix-stop, digit-more, digit-stop, Alike, alike, alike-trans, alike-is}
-use Rattle.p4_header.specs.Reads.{Stands, Mix, Digits}
+use Rattle.p4_laws.specs.Scans.{mix-in, mix-white, mix-hash, mix-stop, comment-end, comment-more, digit-more, digit-stop, Alike, alike, alike-trans, alike-is}
+use Rattle.p4_header.specs.declared.PlaceRead.the-variants.{At, NotAt}
+use Rattle.p4_header.specs.Reads.{place, Stands, Comment, Mix, Digits}
 
 -- ---- a word
 pub record Standing (word s : List ℕ) (at i : ℕ) : Type 0 where
@@ -78,6 +79,28 @@ module _ {s : List ℕ} {at i : ℕ} {comment : Bool} (M : Mixing s at i comment
 
       pub mixing-stop : r ≡ false → (getD s i 0 ≡ 35 → ⊥) → Mix s at i
       mixing-stop t n = record { is = sym (mix-stop (getD s i 0) (drop (i + 1) s) i (sym f ∙ t) n) ∙ at-byte false e }
+
+-- ---- a comment
+pub record Commenting (s : List ℕ) (at i : ℕ) : Type 0 where
+  pub rest : commentAt (drop i s) i ≡ commentAt (drop at s) at
+
+pub commenting-start : (s : List ℕ) (at : ℕ) → Commenting s at at
+commenting-start s at = record { rest = refl }
+
+module _ {s : List ℕ} {at i : ℕ} (C : Commenting s at i) where
+  pub commenting-unclosed : length s ≤ i → Comment s at (NotAt 22 i)
+  unfolding commentAt
+  commenting-unclosed l = record { is = ap (λ (x : List ℕ). commentAt x i) (sym (drop-of-length-le s l)) ∙ C .rest }
+
+  module _ (h : i < length s) {r : Bool} (f : r ≡ isEnd (getD s i 0)) where
+    here-on : commentAt (getD s i 0 ∷ drop (i + 1) s) i ≡ commentAt (drop at s) at
+    here-on = ap (λ (x : List ℕ). commentAt x i) (sym (drop-here s i h)) ∙ C .rest
+
+    pub commenting-closed : r ≡ true → Comment s at (At (i + 1))
+    commenting-closed t = record { is = sym (comment-end (getD s i 0) (drop (i + 1) s) i (sym f ∙ t)) ∙ here-on }
+
+    pub commenting-next : r ≡ false → Commenting s at (i + 1)
+    commenting-next t = record { rest = sym (comment-more (getD s i 0) (drop (i + 1) s) i (sym f ∙ t)) ∙ here-on }
 
 -- ---- digits
 pub record Counting (s : List ℕ) (at i v : ℕ) : Type 0 where

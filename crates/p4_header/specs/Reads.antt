@@ -4,7 +4,7 @@ use mathlib.Core.Bool.{Bool, false}
 use mathlib.Core.List.{List}
 use Prim.Native.Nat.{ℕ, min}
 use lib.ListN.{drop}
-use Rattle.rules.specs.P4.{Judged, good, wrong, _>>=_, stands, white, mix, digitsAt, Field, fieldAt, Header, headerAt}
+use Rattle.rules.specs.P4.{Judged, good, wrong, _>>=_, stands, commentAt, white, mix, digitsAt, Field, fieldAt, Header, headerAt}
 use Rattle.p4_header.specs.declared.PlaceRead.{PlaceRead}
 use Rattle.p4_header.specs.declared.PlaceRead.the-variants.{At, NotAt}
 use Rattle.p4_header.specs.declared.FieldRead.{FieldRead}
@@ -35,6 +35,9 @@ sizesAt s at = do
 -- ---- the contracts
 pub record Stands (word s : List ℕ) (at : ℕ) (r : Bool) : Type 0 where
   pub is : r ≡ stands word (drop at s)
+
+pub record Comment (s : List ℕ) (at : ℕ) (r : PlaceRead) : Type 0 where
+  pub is : place r ≡ commentAt (drop at s) at
 
 pub record White (s : List ℕ) (at : ℕ) (r : PlaceRead) : Type 0 where
   pub is : place r ≡ white s at

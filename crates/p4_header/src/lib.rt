@@ -5,7 +5,7 @@ ghost use Prim.Native.Nat.{_+_, _-_, _*_, _≤_, min};
 ghost use lib.ListN.{length};
 ghost use Rattle.rules.specs.Decimals.{isDigit};
 ghost use Rattle.rules.specs.P4.{isEnd, isWhite};
-ghost use Rattle.p4_header.specs.Reads.{Stands, White, Mix, Digits, FieldIs, SizesAre, HeaderIs};
+ghost use Rattle.p4_header.specs.Reads.{Stands, Comment, White, Mix, Digits, FieldIs, SizesAre, HeaderIs};
 
 // A place, or a refusal with its number and the number returned; and so below.
 pub enum PlaceRead {
@@ -65,13 +65,31 @@ fn stands(word: &[u8], src: &[u8], at: usize) -> bool
     true
 }
 
-// One white space byte, and the place past it.
+// A comment, through its line end, and the place past it.
+fn read_comment(src: &[u8], at: usize) -> PlaceRead
+    ensures { λ r. ⌜ Comment (now (src .entry)) at r ⌝ }
+{
+    let mut i = at;
+    while i < src.len() {
+        if is_end(src[i]) {
+            return PlaceRead::At(i + 1);
+        }
+        i = i + 1;
+    }
+    PlaceRead::NotAt(22, i)
+}
+
+// The white space required, and the place past it: one white space byte, or a comment that begins at once.
 fn read_white(src: &[u8], at: usize) -> PlaceRead
     ensures { λ r. ⌜ White (now (src .entry)) at r ⌝ }
 {
     if at < src.len() {
-        if is_white(src[at]) {
+        let b = src[at];
+        if is_white(b) {
             return PlaceRead::At(at + 1);
+        }
+        if b == 35 {
+            return read_comment(src, at);
         }
     }
     PlaceRead::NotAt(22, at)
@@ -134,8 +152,8 @@ fn read_digits(src: &[u8], at: usize) -> Number
     Number { value: v, next: i }
 }
 
-// The rest of a gap, a number from 1 to `most` and one white space byte.
-// The number is judged once that byte was seen.
+// The rest of a gap, a number from 1 to `most` and the white space required behind it.
+// The number is judged once that was seen.
 pub fn read_field(src: &[u8], at: usize, most: usize, number: u32) -> FieldRead
     requires { ⌜ most ≤ 65535 ⌝ }
     ensures { λ r. ⌜ FieldIs most number (now (src .entry)) at r ⌝ }

@@ -1,35 +1,34 @@
 -- What a header that is read holds: sizes in range, and a place of rows inside the input.
-use mathlib.Core.Path.{_≡_, refl, sym, ap, subst, _∙_}
+use mathlib.Core.Path.{_≡_, sym, ap, subst, _∙_}
 use mathlib.Core.Bool.{Bool, true, false, _&&_}
 use mathlib.Core.List.{List}
-use Prim.Native.Nat.{ℕ, _+_, _≤_, _<_}
+use Prim.Native.Nat.{ℕ, _+_, _≤_}
 use native.Mathlib.Omega.{arith}
-use lib.ListN.{length, getD, drop, List·getD-eq-default}
+use lib.ListN.{length, getD, drop, length-drop}
 use lib.Dec.{leb, ltb, eqb}
-use borrow.Author.Tests.{leb-true, leb-false}
+use borrow.Author.Tests.{leb-true}
 use Rattle.rules.specs.Solids.{sliceBytes}
 use Rattle.rules.specs.P4.{good, isEnd, isWhite, white, mix, digitsAt, Field, fieldAt, Header, headerAt, stands, magic, imageAt}
+use Rattle.p4_laws.specs.White.{Byte, isSpace, isHash, isOther, byte, there, space-reads, other-refused, comment-reads, Ends, comment-ends}
 use Rattle.p4_laws.specs.Judging.{made, passed, first-of, second-of}
 
--- a byte that is white space is there
-pub white-there : (s : List ℕ) (q : ℕ) → isWhite (getD s q 0) ≡ true → q < length s
-unfolding isWhite isEnd
-white-there s q e = by (leb (length s) q) refl
-  where
-    by : (t : Bool) → leb (length s) q ≡ t → q < length s
-    by false f = leb-false (length s) q f
-    by true f =
-        let z : _≡_ {A = Bool} false true = sym (ap isWhite (List·getD-eq-default s 0 (leb-true (length s) q f))) ∙ e in
-        let n : _≡_ {A = ℕ} 0 1 = cc in
-        absurd (omega arith)
-
+-- white space that is read is there
 pub white-in : (s : List ℕ) (q : ℕ) {i : ℕ} → white s q ≡ good i → i ≤ length s
-unfolding white
-white-in s q {i} e =
-    let p = passed 22 q (λ _. good (q + 1)) (isWhite (getD s q 0)) e in
-    let n : q + 1 ≡ i = let x = p .1 in cc in
-    let w = white-there s q (p .0) in
-    omega arith
+unfolding isWhite isEnd
+white-in s q {i} e = by (byte (getD s q 0))
+  where
+    by : Byte (getD s q 0) → i ≤ length s
+    by (isSpace w) =
+        let n : q + 1 ≡ i = let x = sym (space-reads s q w) ∙ e in cc in
+        let l = there s q (λ z. (let y : _≡_ {A = Bool} false true = sym (ap isWhite z) ∙ w in let m : _≡_ {A = ℕ} 0 1 = cc in omega arith)) in
+        omega arith
+    by (isHash h) =
+        let k = subst (Ends (drop q s) q) (sym (comment-reads s q h) ∙ e) (comment-ends (drop q s) q) in
+        let b = k .1 in
+        let l = there s q (λ z. omega arith) in
+        let n = length-drop q s in
+        omega arith
+    by (isOther w n) = let x = sym (other-refused s q w n) ∙ e in let z : _≡_ {A = ℕ} 0 1 = cc in absurd (omega arith)
 
 pub record FieldIn (most : ℕ) (s : List ℕ) (f : Field) : Type 0 where
   pub some : 1 ≤ f .value

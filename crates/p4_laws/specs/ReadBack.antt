@@ -3,11 +3,11 @@ use mathlib.Core.Path.{_≡_, refl, sym, ap, _∙_}
 use mathlib.Core.Bool.{Bool, true, false}
 use mathlib.Core.List.{List, [], _∷_, _++_, append-assoc}
 use Prim.Native.Nat.{ℕ, zero, suc, _+_, _-_, _*_, _/_, _%_, _≤_, _<_}
-use native.Mathlib.Nat.{add-zero, zero-mul, suc-mul}
+use native.Mathlib.Nat.{zero-mul, suc-mul}
 use native.Mathlib.Omega.{arith}
 use lib.Dec.{ltb}
-use lib.ListN.{length, getD, drop, length-append, length-drop}
-use lib.Seq.{drop-drop, drop-append-seam, getD-drop}
+use lib.ListN.{length, drop, length-append, length-drop}
+use lib.Seq.{drop-drop, drop-append-seam}
 use borrow.Author.Tests.{eq-eqb, ne-eqb, le-leb, lt-ltb, ltb-true, ltb-false}
 use Rattle.rules.specs.Solids.{sliceBytes}
 use Rattle.rules.specs.Decimals.{isDigit, figure, decimal}
@@ -15,6 +15,8 @@ use Rattle.rules.specs.P4.{good, stands, magic, isEnd, isWhite, white, mix, dig
 use Rattle.text.specs.Decimals.{decimal-one, decimal-more}
 use Rattle.p4_laws.specs.Judging.{on, pass, both}
 use Rattle.p4_laws.specs.Scans.{mix-stop, digit-more, digit-stop}
+use Rattle.p4_laws.specs.Stores.{dropped}
+use Rattle.p4_laws.specs.White.{space-reads}
 use Rattle.p4_laws.specs.Rows.{rows-twice, rows-more}
 use Rattle.p4_laws.specs.Images.{images-end, images-more}
 use Rattle.p4_laws.specs.Plain.{header-length, slices-more, slice-rows}
@@ -91,10 +93,7 @@ behind : (s : List ℕ) (at : ℕ) (a b : List ℕ) → drop at s ≡ a ++ b →
 behind s at a b e = sym (drop-drop (length a) at s) ∙ ap (drop (length a)) e ∙ drop-append-seam a b
 
 white-here : (s : List ℕ) (at b : ℕ) (t : List ℕ) → isWhite b ≡ true → drop at s ≡ b ∷ t → white s at ≡ good (at + 1)
-unfolding white
-white-here s at b t w e =
-    let g : getD s at 0 ≡ b = ap (λ (x : ℕ). getD s x 0) (sym (add-zero at)) ∙ sym (getD-drop at s 0 0) ∙ ap (λ (l : List ℕ). getD l 0 0) e in
-    pass 22 at _ (ap isWhite g ∙ w)
+white-here s at b t w e = space-reads s at (ap isWhite (dropped s at e .0) ∙ w)
 
 -- a number in its plain form, with white space behind it
 field-reads : (most number : ℕ) (s : List ℕ) (p n b : ℕ) (t : List ℕ) → isDigit b ≡ false → isWhite b ≡ true → 1 ≤ n → n ≤ most

@@ -1,10 +1,10 @@
 -- The front door to P4 stacks: what their promises settle, and both round trips, over the definitions and from promise to promise.
-use mathlib.Core.Path.{_≡_, sym, ap, subst, _∙_}
+use mathlib.Core.Path.{_≡_, refl, sym, ap, subst, _∙_}
 use mathlib.Core.Bool.{true}
 use mathlib.Core.List.{List, _++_}
 use Prim.Native.Nat.{ℕ, _≤_}
 use lib.IntN.{ℤ}
-use lib.ListN.{length, take, drop}
+use lib.ListN.{length, getD, take, drop}
 use lib.Seq.{take-at, drop-at}
 use Rattle.rules.specs.declared.Vector.{Vector}
 use Rattle.rules.specs.declared.Stack.{Stack}
@@ -16,7 +16,7 @@ use Rattle.rules.specs.declared.Writing.the-variants.{Written}
 use Rattle.rules.specs.Solids.{stackBytes, permittedStack, look}
 use Rattle.rules.specs.Pick.{pickOf}
 use Rattle.rules.specs.P4.{good, wrong, Contents, contents, plain, ReadPromise, WritePromise}
-use Rattle.p4_laws.specs.Places.{refused-inside}
+use Rattle.p4_laws.specs.Places.{placed}
 use Rattle.p4_laws.specs.Trips.{stackRows, plain-reads, rows-bytes, rows-look, rows-pick, read-bytes, read-permitted, read-plain, read-again, read-accepted, read-accepts, write-accepted, write-accepts}
 
 -- ---- two answers that a promise allows are equal, and so are the buffers
@@ -28,7 +28,11 @@ write-settled p q = (p .answers ∙ sym (q .answers), p .leaves ∙ sym (q .leav
 
 -- ---- a refusal 21 to 26 gives a place of the input, or its length
 pub refusal-inside : (s : List ℕ) {number place : ℕ} → contents s ≡ wrong number place → place ≤ length s
-refusal-inside = refused-inside
+refusal-inside s e = placed s e .inside
+
+-- and 22 is not given for a comment that touches: none is at a #
+pub hash-taken : (s : List ℕ) {place : ℕ} → contents s ≡ wrong 22 place → getD s place 0 ≡ 35 → ⊥
+hash-taken s e = placed s e .noHash refl
 
 -- ---- what is written reads back: `stackRows` are a stack's rows with padding bits zero
 pub written-reads : (k : Stack) (bytes : List ℕ) → permittedStack k bytes ≡ true → contents (plain k bytes) ≡ good (record { stack = k; bytes = stackRows k bytes })

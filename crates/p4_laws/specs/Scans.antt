@@ -1,4 +1,4 @@
--- The mix of white space and comments, and digits, one byte further.
+-- The mix of white space and comments, a comment, and digits, one byte further.
 use mathlib.Core.Path.{_≡_, refl, sym, ap, _∙_}
 use mathlib.Core.Bool.{Bool, true, false, not}
 use mathlib.Core.List.{List, [], _∷_}
@@ -7,7 +7,7 @@ use native.Mathlib.Omega.{arith}
 use lib.Dec.{leb}
 use borrow.Author.Tests.{eq-eqb, ne-eqb, leb-true}
 use Rattle.rules.specs.Decimals.{isDigit}
-use Rattle.rules.specs.P4.{isEnd, isWhite, mix, digitsAt}
+use Rattle.rules.specs.P4.{good, isEnd, isWhite, commentAt, mix, digitsAt}
 use Rattle.p4_laws.specs.Judging.{first-of, second-of}
 
 module _ (b : ℕ) (bs : List ℕ) (i : ℕ) where
@@ -26,6 +26,14 @@ module _ (b : ℕ) (bs : List ℕ) (i : ℕ) where
   pub mix-stop : isWhite b ≡ false → (b ≡ 35 → ⊥) → mix false (b ∷ bs) i ≡ i
   unfolding mix
   mix-stop e h = rw (e, mix) (rw (ne-eqb b 35 h))
+
+  pub comment-end : isEnd b ≡ true → commentAt (b ∷ bs) i ≡ good (i + 1)
+  unfolding commentAt
+  comment-end e = rw (e, commentAt)
+
+  pub comment-more : isEnd b ≡ false → commentAt (b ∷ bs) i ≡ commentAt bs (i + 1)
+  unfolding commentAt
+  comment-more e = rw (e, commentAt)
 
   module _ (v : ℕ) where
     pub digit-more : isDigit b ≡ true → digitsAt v (b ∷ bs) i ≡ digitsAt (v * 10 + (b - 48)) bs (i + 1)

@@ -1,1 +1,1 @@
-// What holds of document 01's P4 stacks, in `specs/`; `specs/RoundTrips.antt` is the front door. There is no code here.
+// What holds of P4 stacks, in `specs/`; `specs/Lib.antt` names the front doors. There is no code here.

@@ -1,5 +1,5 @@
--- Document 01's cases W1 to W8 (W6 as document 02's 2026-01 has it), with the triangles where it gives them, U1 and U2, level faces and small reaches, and lines of a session
--- that need care: one statement over a list, by evaluation.
+-- Document 01's cases W1 to W8 (W6 as document 02's 2026-01 has it), with the triangles where it gives them, U1 and U2, level faces and small reaches, lines of a session
+-- that need care, and stacks whose comments touch (2026-02): one statement over a list, by evaluation.
 use mathlib.Core.Path.{_≡_, refl}
 use mathlib.Core.Bool.{false}
 use mathlib.Core.List.{List, [], _∷_, map}
@@ -17,22 +17,24 @@ use Rattle.rules.specs.declared.Line.the-variants.{Asks, OtherForm}
 use Rattle.rules.specs.declared.Display.{Display}
 use Rattle.rules.specs.declared.Display.the-variants.{Lit}
 use Rattle.rules.specs.Vectors.{vector, _⊕_, _⊖_, minus, scale, dot, cross, det, sphere, lay, size}
-use Rattle.rules.specs.Solids.{between, permittedWedge, filledWedge, inBox, look}
+use Rattle.rules.specs.Solids.{between, rowBytes, sliceBytes, permittedWedge, filledWedge, inBox, look}
 use Rattle.rules.specs.Asked.{after, _>>=_}
 use Rattle.rules.specs.Walk.{ensure, sign, signs, seen, asked, powersFrom, powers, triangle, normal, allLevel, keep, only, remaining, takesPart, levelled, determinant, inside, anyInside, firstFree, choice, lookAt, falls, isLevel, axes, falling, round, walk, found, start, rounds}
 use Rattle.rules.specs.Pick.{isInside, pick, answer, pickOf}
+use Rattle.rules.specs.P4.{Judged, good, wrong, _>>=_ as _onward_, judge, stands, isEnd, isWhite, commentAt, white, mix, digitsAt, fieldAt, headerAt, padding, cut, row, rows, imageAt, imagesAt, sizes, Contents, contents}
 use Rattle.rules.specs.Decimals.{isDigit, areDigits, value, figure, digits}
 use Rattle.rules.specs.Display.{largest, sizeOf, component, permittedNormal, light, display}
 use Rattle.rules.specs.Session.{parts, fewDigits, within32, signed, number, next, onlyThese, question, three, counts, toldAccepted, toldRefused, told, reply, replies, session}
 
--- a session; a line of it, for the triangle vectors that its pick ends with; whole numbers to display
+-- a session; a line of it, for the triangle vectors that its pick ends with; a P4 file; whole numbers to display
 data Case : Type 0 where
-  prints corners : String → Case
+  prints corners reads : String → Case
   shows : ℤ → ℤ → ℤ → Case
 
 data Told : Type 0 where
   text : List ℕ → Told
   vectors : Triangle → Told
+  judged : Judged Contents → Told
   shown : Display → Told
   none : Told
 
@@ -52,14 +54,21 @@ cornersOf OtherForm = none
 run : Case → Told
 run (prints input) = text (session (bytes input))
 run (corners line) = cornersOf (question (bytes line))
+run (reads input) = judged (contents (bytes input))
 run (shows x y z) = shown (display x y z)
 
--- what the list expects: a text, the vectors (1,0,0), (-1,1,0), (-2,-1,1), or sizes over 32768
+-- what the list expects: a text, the vectors (1,0,0), (-1,1,0), (-2,-1,1), a stack's sizes and rows or a refusal, or sizes over 32768
 says : String → Told
 says output = text (bytes output)
 
 ends : Told
 ends = vectors (triangle (vector (pos 1) (pos 0) (pos 0)) (vector (negsuc 0) (pos 1) (pos 0)) (vector (negsuc 1) (negsuc 0) (pos 1)))
+
+holds : ℕ → ℕ → ℕ → List ℕ → Told
+holds width height depth rows = judged (good (record { stack = sizes width height depth; bytes = rows }))
+
+refuses : ℕ → ℕ → Told
+refuses number place = judged (wrong number place)
 
 over : ℕ → ℕ → ℕ → Told
 over a b c = shown (Lit record { x = rounded binary32 false a 32768; y = rounded binary32 false b 32768; z = rounded binary32 false c 32768 })
@@ -98,6 +107,25 @@ worked-cases :
     ∷ prints "1 2 5 808 1  1 1 0 8\n 1 2 5 808 1 1 1 0 8\n1 2 5 808 1 1 1 0 8 \n"
     ∷ prints "1 2 5 808 1 1 1 0 8\r\n+1 2 5 808 1 1 1 0 8\n1 2 5 808 1 1 1 - 8\n"
     ∷ prints "1 2 5 808 1 1 1 0\n1 2 5 808 1 1 1 0 8 9\n"
+    ∷ reads "P4#c\n3 2\n\u{a0}@"
+    ∷ reads "P4#c\r3 2\n\u{a0}@"
+    ∷ reads "P4\n3#w\n2\n\u{a0}@"
+    ∷ reads "P4\n3#w\n#x\n 2#h\n\u{a0}@"
+    ∷ reads "P4#a\n#b\n\t3 2\n\u{a0}@"
+    ∷ reads "P4\n3 2##\n\u{a0}@"
+    ∷ reads "P4\n3#2\n2#\n\u{a0}@"
+    ∷ reads "P4\n3 2#h\r\n@"
+    ∷ reads "P4\n3 2 #h\n"
+    ∷ reads "P4#"
+    ∷ reads "P4#c"
+    ∷ reads "P4\n3 2#h"
+    ∷ reads "P4\n0#w"
+    ∷ reads "P4\n0#w\n"
+    ∷ reads "P4\n300#w\n2#h\n"
+    ∷ reads "P4#a\nx"
+    ∷ reads "P4x"
+    ∷ reads "P4\n3 2#h\n\u{a0}"
+    ∷ reads "P4\n3 2#h\n\u{a0}@P4#z\n3#\n2#\n À"
     ∷ [])
     ≡ says "N 1 2 5 5 116\n"
     ∷ says "N 1 2 5 5 144\n"
@@ -131,6 +159,25 @@ worked-cases :
     ∷ says "B\nB\nB\n"
     ∷ says "B\nB\nB\n"
     ∷ says "B\nB\n"
+    ∷ holds 3 2 1 (160 ∷ 64 ∷ [])
+    ∷ holds 3 2 1 (160 ∷ 64 ∷ [])
+    ∷ holds 3 2 1 (160 ∷ 64 ∷ [])
+    ∷ holds 3 2 1 (160 ∷ 64 ∷ [])
+    ∷ holds 3 2 1 (160 ∷ 64 ∷ [])
+    ∷ holds 3 2 1 (160 ∷ 64 ∷ [])
+    ∷ holds 3 2 1 (160 ∷ 64 ∷ [])
+    ∷ holds 3 2 1 (0 ∷ 64 ∷ [])
+    ∷ refuses 21 9
+    ∷ refuses 22 3
+    ∷ refuses 22 4
+    ∷ refuses 22 8
+    ∷ refuses 22 6
+    ∷ refuses 23 3
+    ∷ refuses 23 3
+    ∷ refuses 22 5
+    ∷ refuses 22 2
+    ∷ refuses 25 10
+    ∷ holds 3 2 2 (160 ∷ 64 ∷ 32 ∷ 192 ∷ [])
     ∷ []
-unfolding run bytes cornersOf vectorsOf says ends over _⊕_ _⊖_ minus scale dot cross det sphere lay size between permittedWedge filledWedge inBox look after _>>=_ ensure sign signs seen asked powersFrom powers normal allLevel keep only remaining takesPart levelled determinant inside anyInside firstFree choice lookAt falls isLevel axes falling round walk found start rounds isInside pick answer pickOf isDigit areDigits value figure digits parts fewDigits within32 signed number next onlyThese question three counts toldAccepted toldRefused told reply replies session largest sizeOf component permittedNormal light display
+unfolding run bytes cornersOf vectorsOf says ends holds refuses over _⊕_ _⊖_ minus scale dot cross det sphere lay size between permittedWedge filledWedge inBox look after _>>=_ ensure sign signs seen asked powersFrom powers normal allLevel keep only remaining takesPart levelled determinant inside anyInside firstFree choice lookAt falls isLevel axes falling round walk found start rounds isInside pick answer pickOf isDigit areDigits value figure digits parts fewDigits within32 signed number next onlyThese question three counts toldAccepted toldRefused told reply replies session largest sizeOf component permittedNormal light display rowBytes sliceBytes _onward_ judge stands isEnd isWhite commentAt white mix digitsAt fieldAt headerAt padding cut row rows imageAt imagesAt contents
 worked-cases = refl

@@ -1,4 +1,4 @@
--- Document 01, "P4 stacks", in its order and words. These are definitions: nothing here is proved.
+-- Document 01, "P4 stacks", in its order and words, with document 02's comments that touch (2026-02). These are definitions: nothing here is proved.
 use mathlib.Core.Path.{_≡_}
 use mathlib.Core.Bool.{Bool, true, false, not, _||_, _&&_}
 use mathlib.Core.List.{List, [], _∷_, _++_}
@@ -54,11 +54,21 @@ isEnd b = eqb b 13 || eqb b 10
 unfoldable pub isWhite : ℕ → Bool
 isWhite b = eqb b 32 || (eqb b 9 || isEnd b)
 
--- one white space byte, and the place past it
+-- a comment, in bytes that begin with its # at place `at`: through the next CR or LF, and the place past that.
+-- One that never ends is refused where the bytes end
+unfoldable pub commentAt : List ℕ → ℕ → Judged ℕ
+commentAt [] at = wrong 22 at
+commentAt (b ∷ bs) at = elim (isEnd b) [ true ↦ good (at + 1) | false ↦ commentAt bs (at + 1) ]
+
+-- the white space required at a place, and the place past it: one white space byte or, by document 02's 2026-02,
+-- a comment that begins there, whose line end counts as that byte
 unfoldable pub white : List ℕ → ℕ → Judged ℕ
-white s at = do
-  judge (isWhite (getD s at 0)) 22 at
-  good (at + 1)
+white s at = elim (isWhite (getD s at 0)) [
+  | true ↦ good (at + 1)
+  | false ↦ do
+    judge (eqb (getD s at 0) 35) 22 at
+    commentAt (drop at s) at
+]
 
 -- any mix of white space and comments, in bytes that begin at place `at`: the place past it.
 -- A comment runs from # through the next CR or LF; the first argument says whether one is open
@@ -79,8 +89,8 @@ pub record Field : Type 0 where
   pub value : ℕ
   pub next : ℕ
 
--- what follows a gap's first byte: the rest of the gap, digits and one white space byte.
--- The number is judged once that byte was seen: from 1 to `most`, else refused with this refusal number at its first digit
+-- what follows the white space that a gap begins with: the rest of the gap, digits and the white space required behind them.
+-- The number is judged once that was seen: from 1 to `most`, else refused with this refusal number at its first digit
 unfoldable pub fieldAt : ℕ → ℕ → List ℕ → ℕ → Judged Field
 fieldAt most number s at =
     let first = mix false (drop at s) at in
@@ -95,7 +105,7 @@ pub record Header : Type 0 where
   pub height : ℕ
   pub next : ℕ
 
--- "P4", a gap, width, a gap, height, one white space byte
+-- "P4", a gap, width, a gap, height, one white space byte: each gap's first and that last one are what `white` takes
 unfoldable pub headerAt : List ℕ → ℕ → Judged Header
 headerAt s at = do
   judge (stands magic (drop at s)) 21 at

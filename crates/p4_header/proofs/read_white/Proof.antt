@@ -1,5 +1,5 @@
 use borrow.Author.Needs.{needs}
-use Rattle.p4_header.proofs.Judgements.{white-there, white-not, white-past}
+use Rattle.p4_header.proofs.Judgements.{white-space, white-comment, white-other, white-past}
 use Rattle.p4_header.proofs.read_white.Statement.{statement}
 use Rattle.p4_header.proofs.read_white.Tie as tie
 
@@ -10,6 +10,8 @@ read-white-spec =
     (λ c. search needs)
     (λ c κs. search needs)
     (λ c. search needs)
-    (λ c. search white-there)
-    (λ c. search white-not)
+    (λ c. search white-space)
+    (λ c κs. search needs)
+    (λ c. search white-comment)
+    (λ c. search white-other)
     (λ c. search white-past))

@@ -1,0 +1,29 @@
+use Prim.Native.Nat.{_-_}
+use native.Mathlib.Omega.{arith}
+use borrow.Author.Needs.{needs}
+use lib.ListN.{length}
+use Rattle.p4_header.proofs.Scanning.{Commenting, commenting-start, commenting-closed, commenting-next, commenting-unclosed}
+use Rattle.p4_header.proofs.read_comment.Statement.{statement}
+use Rattle.p4_header.proofs.read_comment.Tie as tie
+
+abbrev Inv-loop : tie.InvT-loop
+Inv-loop src at i₀ i = Commenting src at i
+
+abbrev μ-loop : tie.MeasureT-loop
+μ-loop src at i₀ i = length src - i
+
+pub read-comment-spec : {M : Type 1} → statement M
+read-comment-spec =
+    tie.close
+    (tie.spec
+    Inv-loop
+    μ-loop
+    (λ c. search commenting-start)
+    (λ c. omega arith)
+    (λ c κs. search needs)
+    (λ c. omega arith)
+    (λ c. search commenting-closed)
+    (λ c. omega arith)
+    (λ c. omega arith)
+    (λ c. search commenting-next)
+    (λ c. search commenting-unclosed))
