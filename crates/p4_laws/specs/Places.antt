@@ -83,7 +83,7 @@ module _ (s : List ℕ) where
     where
       ends : (x : Judged ℕ) → Ends (drop at s) at x → WellPlaced s x
       ends (good i) h = tt
-      ends (wrong n p) h = subst (Placed s n) (let m = length-drop at s in let e = h .1 in omega arith) (at-end s n)
+      ends (wrong n p) h = subst (Placed s n) (let m = length-drop at s in omega arith) (at-end s n)
 
       by : Byte (getD s at 0) → WellPlaced s (white s at)
       by (isSpace w) = subst (WellPlaced s) (sym (space-reads s at w)) tt

@@ -50,15 +50,15 @@ module _ (s : List ℕ) (at : ℕ) where
 -- ---- a comment ends inside, behind its first byte, or is refused where the bytes end
 abbrev pub Ends : List ℕ → ℕ → Judged ℕ → Type 0
 Ends l at (good i) = (at < i) × (i ≤ at + length l)
-Ends l at (wrong number place) = (number ≡ 22) × (place ≡ at + length l)
+Ends l at (wrong number place) = place ≡ at + length l
 
 one-further : (b : ℕ) (l : List ℕ) (at : ℕ) (x : Judged ℕ) → Ends l (at + 1) x → Ends (b ∷ l) at x
 one-further b l at (good i) h = let x = h .0 in let y = h .1 in (omega arith, omega arith)
-one-further b l at (wrong n p) h = let y = h .1 in (h .0, omega arith)
+one-further b l at (wrong n p) h = omega arith
 
 pub comment-ends : (l : List ℕ) (at : ℕ) → Ends l at (commentAt l at)
 unfolding commentAt
-comment-ends [] at = (refl, omega arith)
+comment-ends [] at = omega arith
 comment-ends (b ∷ l) at = by (isEnd b) refl (comment-ends l (at + 1))
   where
     by : (t : Bool) → isEnd b ≡ t → Ends l (at + 1) (commentAt l (at + 1)) → Ends (b ∷ l) at (commentAt (b ∷ l) at)
