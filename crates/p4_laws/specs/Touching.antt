@@ -1,5 +1,6 @@
 -- Document 02's 2026-02 in its own words: a comment may begin at once where white space is required, and its line end is that white space.
--- The bytes up to the line end are passed over one by one. Behind it a gap goes on as it does behind a comment after white space.
+-- A # has a first line end behind it or none, and the bytes up to there are passed over one by one. Behind it a gap goes on as it does
+-- behind a comment after white space.
 use mathlib.Core.Path.{_≡_, refl, sym, ap, subst, _∙_}
 use mathlib.Core.Bool.{Bool, true, false, not, _&&_}
 use mathlib.Core.List.{List, [], _∷_}
@@ -9,7 +10,7 @@ use lib.Dec.{leb, eqb}
 use lib.ListN.{length, getD, drop, drop-of-length-le}
 use lib.Seq.{drop-drop}
 use borrow.Author.Tests.{lt-ltb, eqb-true, eqb-false}
-use Rattle.rules.specs.P4.{good, wrong, _>>=_, judge, stands, magic, isEnd, isWhite, commentAt, white, mix, digitsAt, Field, fieldAt, headerAt}
+use Rattle.rules.specs.P4.{good, wrong, _>>=_, judge, stands, magic, isEnd, isWhite, commentAt, white, mix, digitsAt, fieldAt, headerAt}
 use Rattle.p4_laws.specs.Judging.{on, pass}
 use Rattle.p4_laws.specs.Stores.{drop-here}
 use Rattle.p4_laws.specs.Scans.{mix-in, mix-hash, comment-end, comment-more}
@@ -25,6 +26,31 @@ pub record Touching (s : List ℕ) (at end : ℕ) : Type 0 where
   pub runs : Open s at end
   pub behind : at < end
   pub closes : isEnd (getD s end 0) ≡ true
+
+-- every # is closed or not: so of a byte where white space is required `space-reads`, `touching-reads`, `unclosed-refused` and `other-refused` tell all
+pub data Closing (s : List ℕ) (at : ℕ) : Type 0 where
+  closed : (end : ℕ) → Touching s at end → Closing s at
+  unclosed : Open s at (length s) → Closing s at
+
+further : {s : List ℕ} {at i : ℕ} → Open s at i → isEnd (getD s i 0) ≡ false → Open s at (i + 1)
+further {s} {at} {i} O f = record { hash = O .hash; unended = λ j l m. by j l m (eqb j i) refl }
+  where
+    by : (j : ℕ) → at < j → j < i + 1 → (t : Bool) → eqb j i ≡ t → isEnd (getD s j 0) ≡ false
+    by j l m true e = ap (λ (k : ℕ). isEnd (getD s k 0)) (eqb-true j i e) ∙ f
+    by j l m false e = let n = eqb-false j i e in O .unended j l (omega arith)
+
+scan : (s : List ℕ) (at k i : ℕ) → i + k ≡ length s → at < i → Open s at i → Closing s at
+scan s at zero i e l O = let n : i ≡ length s = omega arith in unclosed (subst (Open s at) n O)
+scan s at (suc k) i e l O = by (isEnd (getD s i 0)) refl (λ P. scan s at k (i + 1) (omega arith) (omega arith) P)
+  where
+    by : (t : Bool) → isEnd (getD s i 0) ≡ t → (Open s at (i + 1) → Closing s at) → Closing s at
+    by true f go = closed i (record { runs = O; behind = l; closes = f })
+    by false f go = go (further O f)
+
+pub closed-or-not : (s : List ℕ) (at : ℕ) → getD s at 0 ≡ 35 → Closing s at
+closed-or-not s at h =
+    let l = there s at (λ z. omega arith) in
+    scan s at (length s - (at + 1)) (at + 1) (omega arith) (omega arith) (record { hash = h; unended = λ i m n. absurd (omega arith) })
 
 -- bytes with no line end are passed over
 passes : (s : List ℕ) (k i : ℕ) → i + k ≤ length s → ((j : ℕ) → i ≤ j → j < i + k → isEnd (getD s j 0) ≡ false) → commentAt (drop i s) i ≡ commentAt (drop (i + k) s) (i + k)
@@ -104,11 +130,11 @@ touching-gap {s} {at} {end} T =
     ∙ comment-once (drop at s) at (sym (comment-reads s at h) ∙ touching-reads T)
     ∙ ap (λ (x : List ℕ). mix false x (end + 1)) (drop-drop (end + 1 - at) at s ∙ ap (λ (x : ℕ). drop x s) n)
 
--- after the magic
-pub after-magic : (s : List ℕ) (at : ℕ) {end : ℕ} → stands magic (drop at s) ≡ true → Touching s (at + 2) end → {w h : Field} → fieldAt 256 23 s (end + 1) ≡ good w → fieldAt 256 23 s (w .next) ≡ good h
-    → headerAt s at ≡ good (record { width = w .value; height = h .value; next = h .next })
+-- after the magic: width and height follow the comment
+pub after-magic : (s : List ℕ) (at : ℕ) {end : ℕ} → stands magic (drop at s) ≡ true → Touching s (at + 2) end
+    → headerAt s at ≡ (fieldAt 256 23 s (end + 1) >>= λ width. fieldAt 256 23 s (width .next) >>= λ height. good (record { width = width .value; height = height .value; next = height .next }))
 unfolding headerAt
-after-magic s at m T e f = pass 21 at _ m ∙ on _ (touching-reads T) ∙ on _ e ∙ on _ f
+after-magic s at m T = pass 21 at _ m ∙ on _ (touching-reads T)
 
 -- after the width or the height: the number is judged once the line end was seen, and the gap's rest, or the rows, begin past it
 pub after-number : (most number : ℕ) (s : List ℕ) (at : ℕ) {first value past end : ℕ} → mix false (drop at s) at ≡ first → digitsAt 0 (drop first s) first ≡ (value, past) → first < past → Touching s past end

@@ -35,14 +35,17 @@ there s at n = by (leb (length s) at) refl
 
 -- ---- what is read there
 module _ (s : List ℕ) (at : ℕ) where
+  -- a white space byte, as document 01 has it
   pub space-reads : isWhite (getD s at 0) ≡ true → white s at ≡ good (at + 1)
   unfolding white
   space-reads e = rw (e, white)
 
+  -- neither that nor a #
   pub other-refused : isWhite (getD s at 0) ≡ false → (getD s at 0 ≡ 35 → ⊥) → white s at ≡ wrong 22 at
   unfolding white
   other-refused e n = rw (e, white) (fail 22 at _ (ne-eqb (getD s at 0) 35 n))
 
+  -- a #: the comment is read, and its own laws go on from here
   pub comment-reads : getD s at 0 ≡ 35 → white s at ≡ commentAt (drop at s) at
   unfolding white isWhite isEnd
   comment-reads h = let e : isWhite (getD s at 0) ≡ false = ap isWhite h in rw (e, white) (pass 22 at _ (eq-eqb (getD s at 0) 35 h))
