@@ -31,6 +31,7 @@ use Rattle.laws.specs.Flat.{Flat, levelled-dot}
 use Rattle.laws.specs.Generators.{Combines, generators, Products, face-generated}
 use Rattle.laws.specs.Tame.{tame-normal}
 use Rattle.laws.specs.Says.{Says, Few}
+use Rattle.laws.specs.Answered.{voxelsOf}
 use Rattle.laws.specs.Frames.{Signs, lay-lay, lay-dot, lay-scale, lay-sum, lay-part-zero}
 use Rattle.laws.specs.Next.{LevelsAnswered}
 use Rattle.laws.specs.Axes.{levels-answered}
@@ -68,6 +69,14 @@ pub answer-says : (Q : Found → ℕ → Type 0) (F : Stop → ℕ → Type 0) (
 unfolding answer
 answer-says Q F (answered f t) h = h .of
 answer-says Q F (refused r t) h = h .of
+
+-- an accepted record is what the question answered, with its looks counted
+pub accepted-answer : (x : Asked Stop Found) {a : AcceptedPick} → answer x ≡ Accepted a → x ≡ answered (foundOf a) (voxelsOf x)
+unfolding answer
+accepted-answer (answered f t) {a} e =
+    let is : record { normal = f .normal; triangle = f .triangle; apex = f .apex; steps = f .steps; looks = length t } ≡ a = cc in
+    ap (λ (a : AcceptedPick). answered (foundOf a) t) is
+accepted-answer (refused r t) e = absurd (let z : _≡_ {A = ℕ} 0 1 = cc in omega arith)
 
 -- ---- of a flat triangle of determinant 1, laid in
 lay-combined : (s : Vector) (m : Triangle) (a b c : ℤ) → lay s (combined m a b c) ≡ combined (laid s m) a b c

@@ -11,10 +11,10 @@ use Rattle.integers.specs.Reify.{byring, sides}
 use Rattle.integers.specs.Order.{parts, linear, atom, fact}
 use Rattle.integers.specs.Sizes.{product-size}
 use Rattle.rules.specs.declared.Vector.{Vector}
-use Rattle.rules.specs.Vectors.{_⊕_, scale, dot, lay, size}
+use Rattle.rules.specs.Vectors.{_⊕_, _⊖_, minus, scale, dot, lay, size}
 use Rattle.rules.specs.Walk.{sign, signs, Axis}
 use Rattle.laws.specs.Levels.{isZero, not-zero}
-use Rattle.laws.specs.Parts.{Parts, part, part-of, part-lay, vector-eq, NonNegative, Positive, of3}
+use Rattle.laws.specs.Parts.{Parts, part, part-of, part-minus, part-lay, part-difference, vector-by-parts, vector-eq, NonNegative, Positive, of3}
 
 abbrev pub IsSign : ℤ → Type 0
 IsSign z = (z ≡ pos 1) ⊎ (z ≡ negsuc 0)
@@ -62,6 +62,12 @@ gathered s a b = byring (s ∷ a ∷ b ∷ []) (search sides depth 40 fits 5000)
 pub lay-sum : (s a b : Vector) → lay s (a ⊕ b) ≡ lay s a ⊕ lay s b
 unfolding lay _⊕_
 lay-sum s a b = vector-eq (gathered (s .x) (a .x) (b .x)) (gathered (s .y) (a .y) (b .y)) (gathered (s .z) (a .z) (b .z))
+
+pub lay-minus : (s a : Vector) → lay s (minus a) ≡ minus (lay s a)
+lay-minus s a = vector-by-parts (λ k. simp (part-lay, part-minus) (byring (part k s ∷ part k a ∷ []) (search sides depth 40 fits 5000) tt))
+
+pub lay-difference : (s a b : Vector) → lay s (a ⊖ b) ≡ lay s a ⊖ lay s b
+lay-difference s a b = vector-by-parts (λ k. simp (part-lay, part-difference) (byring (part k s ∷ part k a ∷ part k b ∷ []) (search sides depth 40 fits 5000) tt))
 
 -- ---- sizes
 pub sign-size : (s z : ℤ) → IsSign s → natAbs (s *ℤ z) ≡ natAbs z

@@ -14,6 +14,9 @@ pub mod Looks
 pub mod Chosen
 pub mod Next
 pub mod Axes
+pub mod Answered
+pub mod Ended
+pub mod PickParts
 pub mod Powers
 pub mod Walks
 pub mod Frames
@@ -21,5 +24,6 @@ pub mod Ranges
 pub mod Boxes
 pub mod Picks
 pub mod Answers
+pub mod BothWays
 pub mod Stacks
 pub mod Theorems

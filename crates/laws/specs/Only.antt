@@ -29,6 +29,11 @@ module _ {A : Type 0} where
   each-map P f [] h = tt
   each-map P f (x ∷ xs) h = (h .0, each-map P f xs (h .1))
 
+  -- each is one of them
+  pub each-in : (xs : List A) → Each (λ x. In x xs) xs
+  each-in [] = tt
+  each-in (x ∷ xs) = (inl refl, each-of (λ y. In y xs) (λ y. In y (x ∷ xs)) xs (λ y i. inr i) (each-in xs))
+
   module _ (test : A → Bool) where
     pub only-holds : (xs : List A) → Each (λ x. T (test x)) (only test xs)
     unfolding only keep

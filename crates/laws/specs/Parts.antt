@@ -53,6 +53,10 @@ part-difference axis0 a b = refl
 part-difference axis1 a b = refl
 part-difference axis2 a b = refl
 
+-- a difference the other way round
+pub difference-turned : (a b : Vector) → a ⊖ b ≡ minus (b ⊖ a)
+difference-turned a b = vector-by-parts (λ k. simp (part-difference, part-minus) (byring (part k a ∷ part k b ∷ []) (search sides depth 40 fits 5000) tt))
+
 -- P of each part
 pub record Parts (P : ℤ → Type 0) (a : Vector) : Type 0 where
   pub ofX : P (a .x)

@@ -28,7 +28,7 @@ use Rattle.rules.specs.Solids.{look}
 use Rattle.rules.specs.Pick.{isInside, pickOf}
 use Rattle.laws.specs.Tests.{both}
 use Rattle.laws.specs.Only.{each-taking}
-use Rattle.laws.specs.Parts.{part, part-of, vector-by-parts, part-sum, part-difference, part-scale, part-minus, part-lay}
+use Rattle.laws.specs.Parts.{part, part-of, part-sum, part-scale, part-minus, part-lay, difference-turned}
 use Rattle.laws.specs.Triples.{detOf, of9}
 use Rattle.laws.specs.Frames.{IsSign, Signs, signs-are, sign-size}
 use Rattle.laws.specs.Looks.{place, Fell}
@@ -78,9 +78,6 @@ unit-one axis0 = refl
 unit-one axis1 = refl
 unit-one axis2 = refl
 
-back : (a b : Vector) → a ⊖ b ≡ minus (b ⊖ a)
-back a b = vector-by-parts (λ k. simp (part-difference, part-minus) (byring (part k a ∷ part k b ∷ []) (search sides depth 40 fits 5000) tt))
-
 equal-flat : (m : Triangle) → ((k : Axis) → part k (m .m1 ⊖ m .m0) ≡ pos 0) → detOf m ≡ pos 0
 unfolding det dot cross _⊖_
 equal-flat m h =
@@ -117,7 +114,7 @@ module _ (look : Vector → Look) (box : (p : Vector) → T (isInside (look p)) 
       let x = no-level axis0 (level v axis0) (a .axis axis0 .fell) in
       let y = no-level axis1 (level v axis1) (a .axis axis1 .fell) in
       let f = stood P01 (both (not (v .x)) (not (v .y)) x y) in
-      let g = subst (λ u. Fell look q (lay s u) ls false) (back (m .m0) (m .m1)) (stood P10 (both (not (v .y)) (not (v .x)) y x)) in
+      let g = subst (λ u. Fell look q (lay s u) ls false) (difference-turned (m .m0) (m .m1)) (stood P10 (both (not (v .y)) (not (v .x)) y x)) in
       let o : pos 1 ≡ pos 0 = sym (h .tame .unimodular) ∙ equal-flat m (still (way m P01) f g) in
       omega (arith, parts)
 

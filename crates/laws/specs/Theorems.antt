@@ -10,6 +10,7 @@ use lib.ListN.{length}
 use lib.IntN.{ℤ, pos, natAbs, _-ℤ_, _*ℤ_}
 use lib.Signed.{_≤ℤ_}
 use Rattle.rules.specs.declared.Vector.{Vector}
+use Rattle.rules.specs.declared.Look.{Look}
 use Rattle.rules.specs.declared.Solid.{Solid}
 use Rattle.rules.specs.declared.Solid.the-variants.{Stack as IsStack}
 use Rattle.rules.specs.declared.Stack.{Stack}
@@ -26,8 +27,8 @@ use Rattle.rules.specs.declared.Pick.the-variants.{Accepted, Refused}
 use Rattle.rules.specs.Vectors.{_⊕_, scale, dot, lay}
 use Rattle.rules.specs.Solids.{box, inBox, permitted, look}
 use Rattle.rules.specs.Asked.{answered}
-use Rattle.rules.specs.Walk.{signs, powers, Axis, axis0, axis1, axis2, unit, units, vectorOf, pairs, second, way, step, levels, level, keep, only, remaining, takesPart, determinant, inside, choice, round}
-use Rattle.rules.specs.Pick.{isInside, pickOf}
+use Rattle.rules.specs.Walk.{signs, powers, Axis, axis0, axis1, axis2, unit, units, vectorOf, pairs, second, way, step, levels, level, keep, only, remaining, takesPart, determinant, inside, choice, falling, round}
+use Rattle.rules.specs.Pick.{isInside, pick, pickOf}
 use Rattle.laws.specs.Tests.{In}
 use Rattle.laws.specs.Parts.{NonNegative, Positive, part, parts-by}
 use Rattle.laws.specs.Triples.{All, all-by, detOf, step-det}
@@ -45,10 +46,15 @@ use Rattle.laws.specs.Powers.{UpTo, few-looks}
 use Rattle.laws.specs.Ranges.{Bounded}
 use Rattle.laws.specs.Boxes as Boxes
 use Rattle.laws.specs.Boxes.{outside-box}
-use Rattle.laws.specs.Next.{LevelsAnswered, NextLook}
+use Rattle.laws.specs.Next.{LevelsAnswered, Reached, NextLook}
 use Rattle.laws.specs.Axes.{levels-answered}
+use Rattle.laws.specs.Answered.{voxelsOf}
+use Rattle.laws.specs.Ended as Ended
+use Rattle.laws.specs.Ended.{EndsIfNoneFalls}
+use Rattle.laws.specs.PickParts.{PickParts, pick-parts}
+use Rattle.laws.specs.BothWays.{BothWays, parts-levels, levels-looked, sides-looked}
 use Rattle.laws.specs.Picks.{Accepting}
-use Rattle.laws.specs.Answers.{laid, stepsOf, looksOf, foundOf, stopOf, told-accepted, told-refused, told-steps, told-looks, accepting-determinant, accepting-products, accepting-generated, accepting-signs, accepting-steps, accepting-stays, accepting-axes}
+use Rattle.laws.specs.Answers.{laid, stepsOf, looksOf, foundOf, stopOf, accepted-answer, told-accepted, told-refused, told-steps, told-looks, accepting-determinant, accepting-products, accepting-generated, accepting-signs, accepting-steps, accepting-stays, accepting-axes}
 use Rattle.laws.specs.Stacks as Stacks
 
 -- ---- the powers are 1, 2, 4, .. up to the first that is at least R
@@ -76,6 +82,12 @@ not-inside-itself = Choosing.not-inside-itself
 -- the best of the falling pairs, each taken where it is strictly inside the best one's sphere so far, is the choice
 pub best-is-choice : (m : Triangle) → detOf m ≡ pos 1 → (falling : List Pair) → best m Nothing falling ≡ choice m falling
 best-is-choice = Choosing.best-is-choice
+
+-- ---- so the definition's walk ends exactly if no pair falls: at every triangle that a walk of the pairs ps meets, whatever follows, the determinant is 1;
+-- where none of the pairs fell it ends there, else it steps by one that fell, or refuses 9 where no step is left
+pub walk-ends : (look : Vector → Look) (q s : Vector) (ls : List ℕ) (ps : List Pair) (n : ℕ) (m : Triangle) → Reached look q s ls ps n m
+    → (falls : List Pair) (voxels : List Vector) → falling look q s ls m ps ≡ answered falls voxels → (left : ℕ) → EndsIfNoneFalls look q s ls ps left n m falls voxels
+walk-ends look q s ls ps n m r falls voxels e left = Ended.walk-ends look q s ls ps n m r e left
 
 -- ---- each part of every triangle vector stays within 1023: it does at the beginning, and if it does before a round that was answered, it does after a step by any pair that the round asked
 pub units-within : All (Bounded 1023) units
@@ -117,6 +129,14 @@ module _ (solid : Solid) (bytes : List ℕ) (p : Vector) (frame reach : ℤ) whe
   pub looks-at-most-13745 : looksOf (pickOf solid bytes p frame reach) ≤ 13745
   looks-at-most-13745 = told-looks solid bytes p frame reach 13745 (λ h. few-looks R (max R 3) h (omega arith))
 
+  -- the voxels that the pick looks at, in order
+  abbrev pub lookedAt : List Vector
+  lookedAt = voxelsOf (pick (permitted solid bytes) (look solid bytes) p frame reach)
+
+  -- u and its opposite from q: at each power the voxel there is one of those, and empty
+  abbrev pub LookedBothWays : Vector → Type 0
+  LookedBothWays = BothWays (look solid bytes) (p ⊕ signs (natAbs frame)) (signs (natAbs frame)) (powers (natAbs reach)) lookedAt
+
   -- each axis was asked, and v has those that are level
   abbrev pub Answered : Levels → Type 0
   Answered = LevelsAnswered (look solid bytes) (p ⊕ signs (natAbs frame)) (signs (natAbs frame)) (powers (natAbs reach))
@@ -155,6 +175,20 @@ module _ (solid : Solid) (bytes : List ℕ) (p : Vector) (frame reach : ℤ) whe
     -- the level vectors and the sides between the other corners generate every whole vector of the plane
     pub accepted-generated : (v : Vector) → dot (a .normal) v ≡ pos 0 → Combines (generators (levelsOf (a .normal)) (a .triangle)) v
     accepted-generated = accepting-generated accepting signed
+
+    -- a walk that ends has looked both ways from q, at every power, so at the last: along each level axis, and along each side between two other corners
+    parts-here : PickParts (look solid bytes) (p ⊕ signs (natAbs frame)) (signs (natAbs frame)) (natAbs reach) (foundOf a) lookedAt
+    unfolding pickOf
+    parts-here = pick-parts _ _ p frame reach (accepted-answer (pick (permitted solid bytes) (look solid bytes) p frame reach) is)
+
+    levels-here : parts-here .levels ≡ levelsOf (a .normal)
+    levels-here = parts-levels _ _ _ parts-here accepted-levels
+
+    pub level-both-ways : (k : Axis) → T (level (levelsOf (a .normal)) k) → LookedBothWays (lay s (unit k))
+    level-both-ways k l = levels-looked _ _ _ parts-here k (rw levels-here l)
+
+    pub sides-both-ways : (x : Pair) → T (takesPart (levelsOf (a .normal)) x) → LookedBothWays (way (a .triangle) x)
+    sides-both-ways x takes = sides-looked _ _ _ parts-here x (rw levels-here takes)
 
     -- with no level axis, as document 01 has it
     module _ (none : (k : Axis) → isZero (part k (a .normal)) ≡ false) where

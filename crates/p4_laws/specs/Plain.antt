@@ -1,15 +1,15 @@
--- The plain form: how long it is, and its slices one at a time.
+-- The plain form: how long it is, its slices one at a time, and that it depends on no padding bit and on nothing behind the slices.
 use mathlib.Core.Path.{_≡_, refl, sym, ap, _∙_}
 use mathlib.Core.List.{List, [], _++_}
 use Prim.Native.Nat.{ℕ, zero, suc, _+_, _-_, _*_, _≤_, _<_}
 use native.Mathlib.Nat.{zero-mul, suc-mul}
 use native.Mathlib.Omega.{arith}
 use lib.ListN.{length, drop, length-append, length-drop}
-use lib.Seq.{drop-append-le}
+use lib.Seq.{drop-at, drop-append-le}
 use Rattle.rules.specs.Solids.{sliceBytes}
 use Rattle.rules.specs.Decimals.{decimal}
 use Rattle.rules.specs.P4.{rows, plainHeader, slices}
-use Rattle.p4_laws.specs.Rows.{length-rows, rows-front}
+use Rattle.p4_laws.specs.Rows.{length-rows, rows-front, rows-twice, rows-more}
 
 pub header-length : (w h : ℕ) → length (plainHeader w h) ≡ 5 + (length (decimal w) + length (decimal h))
 unfolding plainHeader
@@ -53,3 +53,15 @@ module _ (w h : ℕ) where
         let d = drop-append-le (sliceBytes w h) bs t (omega arith) in
         (λ j. plainHeader w h ++ (slice-front bs t (omega arith) j ++ slices k w h (d j)))
         ∙ ap (λ (l : List ℕ). plainHeader w h ++ (rows h w bs ++ l)) i
+
+    -- a stack's rows in place of its bytes make the same slices
+    pub slices-rows : (k : ℕ) (bs : List ℕ) → k * sliceBytes w h ≤ length bs → slices k w h (rows (k * h) w bs) ≡ slices k w h bs
+    unfolding slices sliceBytes
+    slices-rows zero bs e = refl
+    slices-rows (suc k) bs e =
+        let S = sliceBytes w h in
+        let m = suc-mul k S in
+        let rest = rows (k * h) w (drop S bs) in
+        ap (slices (suc k) w h) (rows-more h k w bs)
+        ∙ (λ j. plainHeader w h ++ (rows-twice w some h bs rest (omega arith) j ++ slices k w h (drop-at (rows h w bs) rest S (slice-rows bs (omega arith)) j)))
+        ∙ ap (λ (l : List ℕ). plainHeader w h ++ (rows h w bs ++ l)) (slices-rows k (drop S bs) (simp length-drop (omega arith)))

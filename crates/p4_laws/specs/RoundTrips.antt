@@ -17,7 +17,7 @@ use Rattle.rules.specs.Solids.{stackBytes, permittedStack, look}
 use Rattle.rules.specs.Pick.{pickOf}
 use Rattle.rules.specs.P4.{good, wrong, Contents, contents, plain, ReadPromise, WritePromise}
 use Rattle.p4_laws.specs.Places.{placed}
-use Rattle.p4_laws.specs.Trips.{stackRows, plain-reads, rows-bytes, rows-look, rows-pick, read-bytes, read-permitted, read-plain, read-again, read-accepted, read-accepts, write-accepted, write-accepts}
+use Rattle.p4_laws.specs.Trips.{stackRows, plain-reads, plain-rows, rows-bytes, rows-look, rows-pick, read-bytes, read-permitted, read-plain, read-again, read-accepted, read-accepts, write-accepted, write-accepts}
 
 -- ---- two answers that a promise allows are equal, and so are the buffers
 pub read-settled : {s before a b : List ℕ} {q r : Reading} → ReadPromise s before a q → ReadPromise s before b r → (q ≡ r) × (a ≡ b)
@@ -37,6 +37,10 @@ hash-taken s e = placed s e .noHash refl
 -- ---- what is written reads back: `stackRows` are a stack's rows with padding bits zero
 pub written-reads : (k : Stack) (bytes : List ℕ) → permittedStack k bytes ≡ true → contents (plain k bytes) ≡ good (record { stack = k; bytes = stackRows k bytes })
 written-reads = plain-reads
+
+-- the plain form is canonical: the rows that it reads back as have the same one
+pub plain-canonical : (k : Stack) (bytes : List ℕ) → permittedStack k bytes ≡ true → plain k (stackRows k bytes) ≡ plain k bytes
+plain-canonical = plain-rows
 
 -- their voxels are those of the lent bytes, whatever these had for padding bits and behind the stack
 pub same-looks : (k : Stack) (bytes : List ℕ) → permittedStack k bytes ≡ true → (behind : List ℕ) (p : Vector) → look (IsStack k) (stackRows k bytes ++ behind) p ≡ look (IsStack k) bytes p
@@ -95,3 +99,18 @@ read-write-read {after = after} {lent = lent} {k = k} R Q l =
     let e : contents (plain k after) ≡ good (record { stack = k; bytes = c .bytes }) = ap (λ (x : List ℕ). contents (plain k x)) (c .leaves) ∙ ap contents (read-plain _ (c .is) _) ∙ read-again _ (c .is) in
     let a = read-accepts e l Q in
     (a .0, ap (take (stackBytes k)) (a .1) ∙ take-at (c .bytes) _ (stackBytes k) n ∙ sym (ap (take (stackBytes k)) (c .leaves) ∙ take-at (c .bytes) _ (stackBytes k) n))
+
+-- ---- a file in its plain form that is read and written, each with room, comes back byte for byte
+pub record CameBack (k : Stack) (file : List ℕ) (x : Reading) (got : List ℕ) (r : Writing) : Type 0 where
+  pub reads : x ≡ Read k
+  pub answer : r ≡ Written (length file)
+  pub front : take (length file) got ≡ file
+
+pub plain-comes-back : (k : Stack) (bytes : List ℕ) {before after lent got : List ℕ} {x : Reading} {r : Writing} → permittedStack k bytes ≡ true
+    → ReadPromise (plain k bytes) before after x → stackBytes k ≤ length before → WritePromise k after lent got r → length (plain k bytes) ≤ length lent → CameBack k (plain k bytes) x got r
+plain-comes-back k bytes {before} {after} {got = got} p R l W m =
+    let e = plain-reads k bytes p in
+    let a = read-accepts e l R in
+    let same : plain k after ≡ plain k bytes = ap (plain k) (a .1) ∙ read-plain (plain k bytes) e _ ∙ plain-rows k bytes p in
+    let w = read-then-write (subst (ReadPromise (plain k bytes) before after) (a .0) R) W (rw same m) in
+    record { reads = a .0; answer = w .answer ∙ ap (λ (f : List ℕ). Written (length f)) same; front = sym (ap (λ (f : List ℕ). take (length f) got) same) ∙ w .front ∙ same }

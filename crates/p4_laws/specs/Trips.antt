@@ -20,7 +20,7 @@ use Rattle.rules.specs.Solids.{stackBytes, permittedStack, look}
 use Rattle.rules.specs.Pick.{pickOf}
 use Rattle.rules.specs.P4.{Judged, good, wrong, rows, Contents, contents, reading, readAnswer, stored, sizes, plain, writing, writeAnswer, ReadPromise, WritePromise}
 use Rattle.p4_laws.specs.Judging.{on, pass, made, passed}
-use Rattle.p4_laws.specs.Plain.{slices-front}
+use Rattle.p4_laws.specs.Plain.{slices-front, slices-rows}
 use Rattle.p4_laws.specs.Images.{Sound, sound}
 use Rattle.p4_laws.specs.ReadBack.{stack-reads}
 use Rattle.p4_laws.specs.Looks.{sized, permits, permitted-too, look-same, rows-long, pick-same}
@@ -45,6 +45,11 @@ module _ (k : Stack) (bytes : List ℕ) (e : permittedStack k bytes ≡ true) wh
       let d = natAbs (k .depth) in
       stack-reads w h (s .wide .1, s .wide .2) (s .high .1, s .high .2) d bytes (s .deep .1, s .deep .2) (s .enough)
       ∙ ap (λ (x : Stack). good (record { stack = x; bytes = rows (d * h) w bytes })) (sym is-sizes)
+
+  -- and is the plain form of these rows
+  pub plain-rows : plain k (stackRows k bytes) ≡ plain k bytes
+  unfolding plain stackRows stackBytes
+  plain-rows = let s = sized k bytes e in slices-rows (natAbs (k .width)) (natAbs (k .height)) (s .wide .1) (natAbs (k .depth)) bytes (s .enough)
 
   pub rows-bytes : length (stackRows k bytes) ≡ stackBytes k
   unfolding stackRows stackBytes
