@@ -1,7 +1,6 @@
 -- Demand 3 as document 01 words it, for normals with three non-zero components: what the base promised, word for word.
 -- It is a corollary of `Demands`: `base-demand-3 : Demand3` in `Corollary`, `base-not-empty : NotEmpty` in `Cases`.
 use mathlib.Core.Path.{_≡_}
-use mathlib.Core.Bool.{not}
 use mathlib.Core.List.{List}
 use Prim.Native.Nat.{ℕ, _+_, _*_, _-_, _≤_}
 use lib.Dec.{T}
@@ -23,7 +22,7 @@ use Rattle.rules.specs.Walk.{way}
 use Rattle.rules.specs.Pick.{WedgePromise, StackPromise}
 use Rattle.laws.specs.Parts.{Positive}
 use Rattle.slope.specs.Stair.{stair, stairBytes}
-use Rattle.slope.specs.Demands.{Inputs, signsOf, powersOf, pickAt, Touched, Same, ofWedge, ofStack, at, line}
+use Rattle.slope.specs.Demands.{Inputs, signsOf, powersOf, pickAt, Touched, RefusedOutside, OneOf, Same, ofWedge, ofStack, at, line}
 
 -- ---- reach, frame and solid are permitted
 pub record Permitted (i : Inputs) : Type 0 where
@@ -61,15 +60,9 @@ pub record AcceptedWith (n : Vector) (i : Inputs) (a : AcceptedPick) : Type 0 wh
   pub sidesInPlane : (side : Pair) → dot n (way (a .triangle) side) ≡ pos 0
   pub sidesGenerate : (v : Vector) → dot n v ≡ pos 0 → Combination (a .triangle) v
 
--- refused with 8 at a place outside the box
-pub record RefusedOutside (i : Inputs) (r : RefusedPick) : Type 0 where
-  pub isEight : r .number ≡ 8
-  pub outside : T (not (inBox (box (i .solid)) (r .place)))
-
--- one of the two, nothing else
+-- or refused with 8, at the voxel that was to be looked at next, as in `Demands`; nothing else
 abbrev pub Demanded : Vector → Inputs → Pick → Type 0
-Demanded n i (Accepted a) = AcceptedWith n i a
-Demanded n i (Refused r) = RefusedOutside i r
+Demanded n i = OneOf (AcceptedWith n i) (RefusedOutside i)
 
 -- a wedge whose a, b, c are g times n; its h is any that is permitted
 pub record OnWedge (g : ℤ) (n : Vector) (wedge : Wedge) (p : Vector) (frame reach : ℤ) : Type 0 where

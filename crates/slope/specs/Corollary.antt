@@ -98,7 +98,7 @@ module _ (n : Vector) (t : ℤ) (i : Inputs) (o : OnSlope n t i) where
 
   to-demanded : (x : Pick) → pickAt i ≡ x → Demands.Demanded n i x → Demanded n i x
   to-demanded (Accepted a) e h = to-accepted a e h
-  to-demanded (Refused r) e h = record { isEight = h .isEight; outside = h .outside }
+  to-demanded (Refused r) e h = h
 
 one-pick : (n : Vector) (t : ℤ) (i : Inputs) → OnSlope n t i → Demanded n i (pickAt i)
 one-pick n t i o = to-demanded n t i o (pickAt i) refl (demand-3 .onePick n t i (to-slope o))

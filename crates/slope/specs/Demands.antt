@@ -101,9 +101,12 @@ pub record RefusedOutside (i : Inputs) (r : RefusedPick) : Type 0 where
   pub outside : T (not (inBox (box (i .solid)) (r .place)))
 
 -- one of the two, nothing else
+abbrev pub OneOf : (AcceptedPick → Type 0) → (RefusedPick → Type 0) → Pick → Type 0
+OneOf A F (Accepted a) = A a
+OneOf A F (Refused r) = F r
+
 abbrev pub Demanded : Vector → Inputs → Pick → Type 0
-Demanded n i (Accepted a) = AcceptedWith n i a
-Demanded n i (Refused r) = RefusedOutside i r
+Demanded n i = OneOf (AcceptedWith n i) (RefusedOutside i)
 
 -- ---- what it asks of two accepted picks
 pub record Same (a b : AcceptedPick) : Type 0 where
