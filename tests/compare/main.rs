@@ -75,46 +75,71 @@ const DEFAULT_SEED: u64 = 7;
 fn main() -> ExitCode {
     second::checks::all();
     let words: Vec<String> = std::env::args().skip(1).collect();
-    if words.first().map_or(false, |word| word == "--repeat") {
-        return repeat(&words[1..]);
-    }
-    let seed = words.first().map_or(DEFAULT_SEED, |word| word.parse().expect("SEED is a number"));
-    let named = words.get(1..).unwrap_or(&[]);
-    println!("seed {seed}");
-    let mut bridge = Bridge::start();
-    let mut calls = 0;
-    for kind in KINDS.iter().filter(|k| named.is_empty() || named.iter().any(|n| n == k.name)) {
-        match all_cases(kind, seed, &mut bridge) {
-            Ok(tally) => calls += tally.calls,
-            Err(difference) => {
-                println!("DIFFERENCE in {}: {difference}", kind.name);
-                return ExitCode::FAILURE;
-            }
-        }
-    }
-    println!("compared {calls}");
-    ExitCode::SUCCESS
-}
-
-fn repeat(words: &[String]) -> ExitCode {
-    let (name, seed, index) = match words {
-        [name, seed, index] => (name, seed, index),
-        _ => panic!("--repeat KIND SEED INDEX"),
+    let compared = match words.first().map(String::as_str) {
+        Some("--repeat") => repeat(&words[1..]),
+        _ => compare(&words),
     };
-    let kind = KINDS.iter().find(|kind| kind.name == name).expect("KIND is one of the kinds");
-    let number = |word: &String| word.parse::<u64>().expect("SEED and INDEX are numbers");
-    let (seed, index) = (number(seed), number(index));
-    let mut tally = Tally::default();
-    match some_cases(kind, seed, index..index + 1, &mut Bridge::start(), &mut tally) {
-        Ok(_) => {
-            println!("no difference in {} calls: {tally}", tally.calls);
+    match compared {
+        Ok(0) => {
+            println!("NOTHING was compared");
+            ExitCode::FAILURE
+        }
+        Ok(calls) => {
+            println!("compared {calls}");
             ExitCode::SUCCESS
         }
         Err(difference) => {
-            println!("DIFFERENCE in {name}: {difference}");
+            println!("{difference}");
             ExitCode::FAILURE
         }
     }
+}
+
+/// Gives how many calls were compared.
+fn compare(words: &[String]) -> Result<u64, String> {
+    let seed = words.first().map_or(Ok(DEFAULT_SEED), number)?;
+    let named: Result<Vec<&Kind>, String> = words.iter().skip(1).map(kind_named).collect();
+    let mut kinds = named?;
+    if kinds.is_empty() {
+        kinds.extend(KINDS);
+    }
+    println!("seed {seed}");
+    let mut bridge = Bridge::start();
+    let mut calls = 0;
+    for kind in kinds {
+        calls += all_cases(kind, seed, &mut bridge).map_err(|told| different(kind, &told))?.calls;
+    }
+    Ok(calls)
+}
+
+fn repeat(words: &[String]) -> Result<u64, String> {
+    let (name, seed, index) = match words {
+        [name, seed, index] => (name, number(seed)?, number(index)?),
+        _ => return Err("--repeat KIND SEED INDEX".into()),
+    };
+    let kind = kind_named(name)?;
+    if index >= kind.cases {
+        return Err(format!("{name} has the cases 0 to {}", kind.cases - 1));
+    }
+    let mut tally = Tally::default();
+    some_cases(kind, seed, index..index + 1, &mut Bridge::start(), &mut tally)
+        .map_err(|told| different(kind, &told))?;
+    println!("no difference: {tally}");
+    Ok(tally.calls)
+}
+
+fn number(word: &String) -> Result<u64, String> {
+    word.parse().map_err(|_| format!("{word} is not a number"))
+}
+
+fn kind_named(name: &String) -> Result<&'static Kind, String> {
+    let names: Vec<&str> = KINDS.iter().map(|kind| kind.name).collect();
+    let found = KINDS.iter().find(|kind| kind.name == name);
+    found.ok_or_else(|| format!("no kind is named {name}; the kinds are {}", names.join(" ")))
+}
+
+fn different(kind: &Kind, told: &str) -> String {
+    format!("DIFFERENCE in {}: {told}", kind.name)
 }
 
 fn all_cases(kind: &Kind, seed: u64, bridge: &mut Bridge) -> Result<Tally, String> {

@@ -17,20 +17,19 @@ use second::solid::{Solid, Stack, Wedge, WEDGE_SIDE};
 
 const REACHES: [i64; 6] = [8, 16, 32, 64, 128, 256];
 const STACK_SIDE: i64 = 256;
+/// A stack offers reach 8 to 64.
+const STACK_OFFERS: usize = 4;
 /// Up to here every height is walked too.
 const EVERY_HEIGHT_TO: i64 = 32;
 
 fn main() {
-    for (name, side) in [("Wedge (box 1024)", WEDGE_SIDE), ("Stack (box 256)", STACK_SIDE)] {
-        let [none, one, two] = [0, 1, 2].map(|level| {
-            REACHES.iter().map(|&reach| measured(reach, side, level)).collect::<Vec<Measured>>()
-        });
-        println!("{name}\n");
-        print_accepted(&none);
-        print_by_sum(&none);
-        println!("{name}, one level axis; of the three normals with two, accepted somewhere\n");
-        print_level(&one, &two);
-    }
+    let [wedge, stack] = [WEDGE_SIDE, STACK_SIDE]
+        .map(|side| [0, 1, 2].map(|level| REACHES.map(|reach| measured(reach, side, level))));
+    print_accepted("Wedge, box 1024 a side", &wedge[0]);
+    print_accepted("Stack, 256 a side", &stack[0]);
+    print_by_sum(&wedge[0], &stack[0][..STACK_OFFERS]);
+    print_level("Wedge, box 1024 a side, one level axis", &wedge[1], &wedge[2]);
+    print_level("Stack, 256 a side, one level axis", &stack[1], &stack[2]);
 }
 
 /// For one reach, one box and one number of level axes: how many normals there are and how many
@@ -141,37 +140,38 @@ fn check_in_true_box(normal: Point, reach: i64, side: i64, shift: Point) {
 }
 
 const HEAD: &str =
-    "| reach | normals of w ≤ reach | accepted somewhere | share | all accepted up to w |";
+    "| reach | normals of w up to the reach | accepted somewhere | share | all accepted up to w |";
 
-fn print_accepted(rows: &[Measured]) {
-    println!("{HEAD}\n|---|---|---|---|---|");
+fn print_accepted(name: &str, rows: &[Measured]) {
+    println!("**{name}**\n\n{HEAD}\n|---|---|---|---|---|");
     rows.iter().for_each(|row| println!("{}", row.told()));
     println!();
 }
 
-fn print_level(one: &[Measured], two: &[Measured]) {
-    println!("{HEAD} two level axes |\n|---|---|---|---|---|---|");
+fn print_level(name: &str, one: &[Measured], two: &[Measured]) {
+    println!("**{name}**\n\n{HEAD} of the three with two |\n|---|---|---|---|---|---|");
     for (row, with_two) in one.iter().zip(two) {
         println!("{} {} |", row.told(), with_two.accepted.iter().sum::<u64>());
     }
     println!();
 }
 
-/// How a larger reach costs the small normals.
-fn print_by_sum(rows: &[Measured]) {
-    let head: Vec<String> = rows.iter().map(|row| format!("reach {}", row.reach)).collect();
-    println!("| w up to | normals | {} |", head.join(" | "));
-    println!("|---|---|{}", "---|".repeat(rows.len()));
+/// What a larger reach costs the small normals.
+fn print_by_sum(wedge: &[Measured], stack: &[Measured]) {
+    let reaches = |rows: &[Measured]| rows.iter().map(|row| format!(" {} |", row.reach)).collect();
+    let [wedges, stacks]: [String; 2] = [reaches(wedge), reaches(stack)];
+    println!("| w up to | normals | wedge, reach{wedges} stack, reach{stacks}");
+    println!("|---|---|{}", "---|".repeat(wedge.len() + stack.len()));
     for sum in REACHES {
-        let all = rows.iter().find(|row| row.reach >= sum).expect("a reach of this size");
-        let cells: Vec<String> = rows
-            .iter()
-            .map(|row| match row.reach >= sum {
-                true => Measured::up_to(&row.accepted, sum).to_string(),
-                false => "".into(),
-            })
-            .collect();
-        println!("| {sum} | {} | {} |", Measured::up_to(&all.normals, sum), cells.join(" | "));
+        let all = wedge.iter().find(|row| row.reach == sum).expect("a reach of this size");
+        print!("| {sum} | {} |", Measured::up_to(&all.normals, sum));
+        for row in wedge.iter().chain(stack) {
+            match row.reach >= sum {
+                true => print!(" {} |", Measured::up_to(&row.accepted, sum)),
+                false => print!(" |"),
+            }
+        }
+        println!();
     }
     println!();
 }

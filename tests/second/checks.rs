@@ -70,8 +70,8 @@ pub fn a_line_cut_at_the_last_byte_read() {
 pub fn sum_above_reach() {
     let (sizes, bytes) = sum_above_reach_stack();
     let answer = pick(&Stack { sizes, bytes: &bytes }, [31, 31, 31], 0, 5);
-    let Refusal { number, place, steps, .. } = answer.unwrap_err();
-    assert_eq!((number, place, steps), (10, [32, 32, 32], 2));
+    let Refusal { number, place, steps, looks } = answer.unwrap_err();
+    assert_eq!((number, place, steps, looks), (10, [32, 32, 32], 2, 71));
     let answer = pick(&Stack { sizes, bytes: &bytes }, [31, 31, 31], 0, 6);
     assert_eq!(answer.map(|record| record.normal), Ok([3, 2, 1]));
 }

@@ -4,19 +4,18 @@ use crate::point::{dot, Point, ORIGIN};
 
 pub const ALL_ZERO_OR_TOO_LARGE: u32 = 30;
 
-/// The largest whole m with m·m·S ≤ n·n·2^30, found by halving; m is at most 32768.
+/// The largest whole m with m·m·S ≤ n·n·2^30. The float root is a guess; whole numbers decide.
 pub fn size(n: i64, sum_of_squares: i64) -> i64 {
-    let fits = |m: i64| i128::from(m * m) * i128::from(sum_of_squares) <= i128::from(n * n) << 30;
-    let (mut fitting, mut too_large) = (0, 32769);
-    while too_large - fitting > 1 {
-        let middle = (fitting + too_large) / 2;
-        if fits(middle) {
-            fitting = middle;
-        } else {
-            too_large = middle;
-        }
+    let most = (n * n) << 30;
+    let fits = |m: i64| m * m * sum_of_squares <= most;
+    let mut m = (most as f64 / sum_of_squares as f64).sqrt() as i64;
+    while !fits(m) {
+        m -= 1;
     }
-    fitting
+    while fits(m + 1) {
+        m += 1;
+    }
+    m
 }
 
 /// Three floats, or the refusal number.

@@ -1,6 +1,9 @@
-// Document 01's listed cases of a pick and those of its request 2026-01 in document 02, run through the proved code, a line each, in the form of the wedge program:
-// "N", normal, steps, looks; or "R", number, place, steps, looks; and after "T" the triangle, where it is asked. `stdout` has what the documents say;
-// what they leave open (the looks 59, 178, 71, and level faces but W6 and the limits of the reach) is the second program's.
+// Cases of a pick, run through the proved code, a line each, in the form of the wedge program: "N", normal, steps,
+// looks; or "R", number, place, steps, looks; and after "T" the triangle, where it is asked.
+// The documents give W4, refusals 1, 2 and 4, the normal (2,3,9), and on the large stack refusal 10 after two steps.
+// They do not give the looks 59, 178, 95, 35, 29 and 71, the steps to (2,3,9) and (5,2,1), the normal at (5,6,7), nor
+// the lines of reach 1 and 2, of level faces (W6 as 2026-01 changes it) and of small stacks. Those are the second
+// program's, which was written apart from this library and is held to each of them (tests/second/listed.rs, checks.rs).
 use rules::Pick;
 use rules::Stack;
 use rules::Vector;
@@ -77,16 +80,16 @@ fn show_limits() {
         a: 1,
         b: 1,
         c: 1,
-        h: 1503,
+        h: 1536,
     };
-    show(pick::pick_wedge(far, at(500), 0, 256));
-    show(pick::pick_wedge(w, at(100), 8, 3));
+    show(pick::pick_wedge(far, at(511), 0, 256));
+    show(pick::pick_wedge(w, at(100), 8, 8));
     let edge = Vector {
         x: 1023,
         y: 5,
         z: 5,
     };
-    show(pick::pick_wedge(w, edge, 0, 3));
+    show(pick::pick_wedge(w, edge, 0, 8));
 }
 
 // ---- level faces
@@ -197,7 +200,7 @@ fn show_stack() {
 fn main() {
     show_limits();
     // Power 1 alone would stop at (1,1,4).
-    show_wedge(2, 3, 9, 1413, 14);
+    show_wedge(2, 3, 9, 1413, 16);
     // Fewer pairs asked would show in the looks.
     show_wedge(5, 2, 1, 808, 8);
     // The numbers do not add up to the reach, and the walk ends early.
