@@ -1,6 +1,6 @@
 -- An accepted pick has looked both ways from its apex, at every power, so at the last: along each level axis, whose opposite was asked too, and along
 -- each side between two remaining corners, since with a pair (k, l) the walk's last round asked the pair (l, k). Every voxel looked at there is empty.
-use mathlib.Core.Path.{_≡_, refl, sym, ap, ap₂, subst, _∙_}
+use mathlib.Core.Path.{_≡_, refl, sym, ap, ap₂, _∙_}
 use mathlib.Core.Bool.{Bool, true, false, not}
 use mathlib.Core.List.{List, []}
 use Prim.Native.Nat.{ℕ}

@@ -1,7 +1,7 @@
 -- What an answered pick was made of: each axis was asked, then the walk ran to its end, and the voxels that they looked at are among the pick's own.
-use mathlib.Core.Path.{_≡_, refl, sym, ap, _∙_}
-use mathlib.Core.Bool.{Bool, true, false, not}
-use mathlib.Core.List.{List, []}
+use mathlib.Core.Path.{_≡_, ap, _∙_}
+use mathlib.Core.Bool.{Bool}
+use mathlib.Core.List.{List}
 use Prim.Native.Nat.{ℕ, _-_}
 use lib.ListN.{length}
 use lib.IntN.{ℤ, natAbs}
