@@ -2,3 +2,4 @@
 pub mod Scene
 pub mod Tally
 pub mod Falls
+pub mod Settled

@@ -12,18 +12,18 @@ ghost use Rattle.rules.specs.Session.{minus};
 ghost use Rattle.line.specs.Reading.{Found, DigitsRead, NumberRead, signedOf, FieldAt, ThreeAt, Asking, LineRead};
 
 // What digits say.
-pub enum Digits {
+enum Digits {
     Value(u64),
     NoDigits,
 }
 
 // A number and the place behind the space after it.
-pub enum Field {
+enum Field {
     Holds(i32, usize),
     NoField,
 }
 
-pub enum Three {
+enum Three {
     Values(Vector, usize),
     NoThree,
 }

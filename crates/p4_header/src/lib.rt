@@ -14,7 +14,7 @@ pub enum PlaceRead {
 }
 
 // A number's value and the place past the white space behind it.
-pub enum FieldRead {
+enum FieldRead {
     Value(usize, usize),
     NoValue(u32, usize),
 }
@@ -121,9 +121,9 @@ fn skip_mix(src: &[u8], at: usize) -> usize
     i
 }
 
-pub struct Number {
-    pub value: usize,
-    pub next: usize,
+struct Number {
+    value: usize,
+    next: usize,
 }
 
 // One digit more; 100000 stands for every value above it.
@@ -154,7 +154,7 @@ fn read_digits(src: &[u8], at: usize) -> Number
 
 // The rest of a gap, a number from 1 to `most` and the white space required behind it.
 // The number is judged once that was seen.
-pub fn read_field(src: &[u8], at: usize, most: usize, number: u32) -> FieldRead
+fn read_field(src: &[u8], at: usize, most: usize, number: u32) -> FieldRead
     requires { ⌜ most ≤ 65535 ⌝ }
     ensures { λ r. ⌜ FieldIs most number (now (src .entry)) at r ⌝ }
 {

@@ -7,7 +7,7 @@ ghost use Rattle.rules.specs.Solids.{sliceBytes};
 ghost use Rattle.rules.specs.P4.{rows};
 ghost use Rattle.p4_rows.specs.Copies.{RowBytes, Padding, Sides, SliceBytes, Room, RowRoom, cleared};
 
-pub fn row_bytes(width: usize) -> usize
+fn row_bytes(width: usize) -> usize
     requires { ⌜ (1 ≤ width) × (width ≤ 256) ⌝ }
     ensures { λ r. ⌜ RowBytes width r ⌝ }
 {

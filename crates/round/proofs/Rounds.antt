@@ -161,9 +161,9 @@ module _ (look : Vector → Look) (q s : Vector) (reach : ℕ) (m : Triangle) (l
   goes P21 {sofar} {r} h p = record { gives = record { is = none-left look q s reach m (toldRound r) ∙ p .is [] ∙ h .rest-gives }; weighed = p .weighed; few = omega (arith, p .few, h .few) }
 
 module _ {look : Vector → Look} {q s : Vector} {reach : ℕ} {m : Triangle} {level : Levels} {n : ℕ} where
-  pub asking-begins : {none : Vector} → Sound m → Asking look q s reach m level n P01 (IsAsked (bestOf Nothing none) n)
+  pub asking-begins : Sound m → Asking look q s reach m level n P01 (IsAsked (bestOf Nothing (m .m0)) n)
   unfolding behind left
-  asking-begins h = record { rest-gives = best-of-all look q s reach m (taking level pairs) n (h .unimodular); weighed = tt; few = omega arith }
+  asking-begins h = record { rest-gives = best-of-all look q s reach m (taking level pairs) n (h .unimodular); weighed = refl; few = omega arith }
 
   module _ {x : Pair} {sofar r : Round} {c : Choice} (h : Asking look q s reach m level n x sofar) (p : PairAsked look q s reach m level x sofar r) (e : c ≡ after x) where
     pub asking-ends : c ≡ Nothing → RoundAsked look q s reach m level n r

@@ -1,2 +1,3 @@
 -- What a round keeps and promises.
 pub mod Round
+pub mod Settled

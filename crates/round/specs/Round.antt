@@ -52,10 +52,13 @@ rowOf m x = m .m0 ⊕ way m x
 abbrev pub nearer : Triangle → Vector → Vector → Bool
 nearer m c e = ltZ (sphere (m .m0 ⊖ m .m1) (m .m0 ⊖ m .m2) c e) (pos 0)
 
--- r is the row of the best so far
+-- the row of the best so far; of no pair, m_0
+abbrev pub bestRow : Triangle → Choice → Vector
+bestRow m Nothing = m .m0
+bestRow m (Chosen x) = rowOf m x
+
 abbrev pub Weighs : Triangle → Choice → Vector → Type 0
-Weighs m Nothing r = Unit {0}
-Weighs m (Chosen x) r = r ≡ rowOf m x
+Weighs m c r = r ≡ bestRow m c
 
 abbrev pub Weighed : Triangle → Round → Type 0
 Weighed m (IsAsked k n) = Weighs m (k .choice) (k .row)

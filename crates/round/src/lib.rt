@@ -13,7 +13,7 @@ use rules::Pair;
 use rules::Triangle;
 use rules::Vector;
 
-// The best falling pair so far, and its candidate's row of the determinant; of no pair, any row.
+// The best falling pair so far, and its candidate's row of the determinant; of no pair, m_0.
 pub struct Best {
     pub choice: Choice,
     pub row: Vector,

@@ -29,14 +29,14 @@ fn is_permitted_wedge(w: Wedge) -> bool
     a & (b & (c & h))
 }
 
-pub fn row_bytes(width: usize) -> usize
+fn row_bytes(width: usize) -> usize
     requires { ⌜ width ≤ 256 ⌝ }
     ensures { λ r. ⌜ (r ≡ rowBytes width) × (r ≤ 32) ⌝ }
 {
     (width + 7) / 8
 }
 
-pub fn stack_bytes(k: Stack) -> usize
+fn stack_bytes(k: Stack) -> usize
     requires { ⌜ SizesAsk k ⌝ }
     ensures { λ r. ⌜ r ≡ stackBytes k ⌝ }
 {

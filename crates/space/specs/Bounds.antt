@@ -1,4 +1,4 @@
--- Sizes of whole vectors. `Bounded n a` says that each part is at most n in size. Of a term in ⊕ ⊖ minus scale lay cross, whose vectors are bounded by hypotheses
+-- Sizes of whole vectors. `Bounded n a` says that each part is at most n in size. Of a term in ⊕ ⊖ minus lay cross, whose vectors are bounded by hypotheses
 -- or are results of calls, `search measured` finds the vector that it is and a bound on it, as `search machine` does of numbers, dot products among them:
 --     bounded (search measured depth 30 fits 5000) tt               `Bounded n a`
 --     fits, value, within (search measured depth 30 fits 5000) tt   as of Machine
@@ -12,7 +12,7 @@ use Rattle.integers.specs.Sizes.{Within, within-sum, within-product, within-opp
 use Rattle.integers.specs.Machine.{Reads, Stands, as-it-is, through, through-both, known-stands, machine}
 use Rattle.rules.specs.declared.Vector.{Vector}
 use Rattle.laws.specs.Ranges.{Bounded}
-use Rattle.rules.specs.Vectors.{vector, _⊕_, _⊖_, minus, scale, dot, cross, lay}
+use Rattle.rules.specs.Vectors.{vector, _⊕_, _⊖_, minus, dot, cross, lay}
 
 -- ---- bounds of compound vectors
 pub bounded-is : {n : ℕ} {a b : Vector} → a ≡ b → Bounded n b → Bounded n a
@@ -28,10 +28,6 @@ bounded-wider h k = each (λ x y. x) (λ x y p q. within-wider p k) h h
 pub bounded-opposite : {n : ℕ} {a : Vector} → Bounded n a → Bounded n (minus a)
 unfolding minus
 bounded-opposite h = each (λ x y. negℤ x) (λ x y p q. within-opposite p) h h
-
-pub bounded-scale : {m n : ℕ} {l : ℤ} {a : Vector} → Within m l → Bounded n a → Bounded (m * n) (scale l a)
-unfolding scale
-bounded-scale {l} h k = each (λ x y. l *ℤ x) (λ x y p q. within-product h p) k k
 
 module _ {m n : ℕ} {a b : Vector} (h : Bounded m a) (k : Bounded n b) where
   pub bounded-sum : Bounded (m + n) (a ⊕ b)
@@ -73,9 +69,6 @@ bounded-known {n} {a} h = record { read = as-it-is a; bound = n; sized = h }
 abbrev pub opposite-known : {a : Vector} → Known a → Known (minus a)
 opposite-known p = record { read = through minus (p .read); bound = p .bound; sized = bounded-opposite (p .sized) }
 
-abbrev pub scale-known : {l : ℤ} {a : Vector} → Stands l → Known a → Known (scale l a)
-scale-known p q = record { read = through-both scale (p .read) (q .read); bound = p .bound * q .bound; sized = bounded-scale (p .sized) (q .sized) }
-
 module _ {a b : Vector} (p : Known a) (q : Known b) where
   abbrev pub sum-known : Known (a ⊕ b)
   sum-known = record { read = through-both _⊕_ (p .read) (q .read); bound = p .bound + q .bound; sized = bounded-sum (p .sized) (q .sized) }
@@ -100,7 +93,7 @@ result-known e p = record { read = record { plain = p .read .plain; passes = p .
 abbrev pub vector-reads : {a : Vector} → Known a → Reads a
 vector-reads p = p .read
 
-pub ruleset measured = (machine, vector-reads, bounded-known, opposite-known, scale-known, sum-known, difference-known, lay-known, cross-known, dot-stands, result-known, known-stands)
+pub ruleset measured = (machine, vector-reads, bounded-known, opposite-known, sum-known, difference-known, lay-known, cross-known, dot-stands, result-known, known-stands)
 
 pub bounded : {n : ℕ} {a : Vector} (p : Known a) → T (p .read .passes && leb (p .bound) n) → Bounded n a
 bounded {n} p t =

@@ -2,7 +2,7 @@
 ghost use mathlib.Core.Path.{_≡_};
 ghost use lib.IntN.{_-ℤ_, _*ℤ_};
 ghost use Rattle.integers.specs.Sizes.{Within};
-ghost use Rattle.rules.specs.Vectors.{_⊕_, _⊖_, minus, scale, dot, cross, sphere, lay, size};
+ghost use Rattle.rules.specs.Vectors.{_⊕_, _⊖_, minus, dot, cross, sphere, lay, size};
 ghost use Rattle.laws.specs.Ranges.{Bounded};
 use rules::Vector;
 use size::size_of;
@@ -40,17 +40,6 @@ pub fn negate(a: Vector) -> Vector
     }
 }
 
-pub fn scale(l: i32, a: Vector) -> Vector
-    requires { ⌜ Within 1000 l × Bounded 1000000 a ⌝ }
-    ensures { λ r. ⌜ r ≡ scale l a ⌝ }
-{
-    Vector {
-        x: l * a.x,
-        y: l * a.y,
-        z: l * a.z,
-    }
-}
-
 // Each part multiplied by its sign.
 pub fn lay(s: Vector, a: Vector) -> Vector
     requires { ⌜ Bounded 1 s × Bounded 1000000000 a ⌝ }
@@ -81,7 +70,7 @@ fn multiply(a: i32, b: i32) -> i64
     (a as i64) * (b as i64)
 }
 
-pub fn dot(a: Vector, b: Vector) -> i64
+fn dot(a: Vector, b: Vector) -> i64
     requires { ⌜ Bounded 1000000000 a × Bounded 1000000000 b ⌝ }
     ensures { λ r. ⌜ r ≡ dot a b ⌝ }
 {

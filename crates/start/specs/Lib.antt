@@ -1,2 +1,3 @@
 -- What the start promises.
 pub mod Start
+pub mod Settled

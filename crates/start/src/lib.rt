@@ -15,7 +15,7 @@ use rules::Refused;
 use rules::Vector;
 
 // Whether an axis is level, after so many looks; or a refusal.
-pub enum AxisAnswer {
+enum AxisAnswer {
     Asked(bool, u32),
     Refused(Refused),
 }

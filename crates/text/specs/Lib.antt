@@ -1,3 +1,4 @@
 pub mod Put
 pub mod Puts
 pub mod Decimals
+pub mod Settled

@@ -26,7 +26,7 @@ pub fn is_digit(b: u8) -> bool
     b <= 57
 }
 
-pub fn last_figure(n: u32) -> u8
+fn last_figure(n: u32) -> u8
     ensures { λ r. ⌜ r ≡ figure n ⌝ }
 {
     48 + (n % 10) as u8

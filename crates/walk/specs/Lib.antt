@@ -1,2 +1,3 @@
 -- What the walk promises.
 pub mod Walk
+pub mod Settled
