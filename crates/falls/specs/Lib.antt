@@ -1,5 +1,4 @@
 -- What the code keeps of a question, and what the falls question promises.
 pub mod Scene
-pub mod Tally
 pub mod Falls
 pub mod Settled

@@ -20,7 +20,7 @@ use Rattle.rules.specs.declared.Choice.{Choice}
 use Rattle.rules.specs.declared.Choice.the-variants.{Chosen}
 use Rattle.rules.specs.Vectors.{vector}
 use Rattle.rules.specs.Asked.{answered}
-use Rattle.rules.specs.Walk.{powers, units, step, round}
+use Rattle.rules.specs.Walk.{powers, units, step, Probe, round}
 use Rattle.rules.specs.Solids.{between, permittedSize, stackBytes, permittedStack, permitted, box, inSide, inBox, filled, seenAs, look}
 use Rattle.rules.specs.Pick.{isInside}
 use Rattle.laws.specs.Tests.{In, first-of, second-of}
@@ -30,7 +30,7 @@ use Rattle.laws.specs.Frames.{Signs}
 use Rattle.laws.specs.Says.{says-answered}
 use Rattle.laws.specs.Looks.{As, round-says}
 use Rattle.laws.specs.Chosen.{chosen-in}
-use Rattle.laws.specs.Ranges.{Between, InCube, Bounded, step-within}
+use Rattle.laws.specs.Ranges.{Between, InCube, Bounded, powers-begin, step-within}
 
 -- ---- a look and the box
 seen-inside : (i f : Bool) → isInside (seenAs i f) ≡ i
@@ -112,10 +112,17 @@ units-within = record { of0 = small 1 0 0 tt tt tt; of1 = small 0 1 0 tt tt tt; 
     small : (a b c : ℕ) → T (leb a 1023) → T (leb b 1023) → T (leb c 1023) → Bounded 1023 (vector (pos a) (pos b) (pos c))
     small a b c h k l = record { in-x = record { size = lit≤ h }; in-y = record { size = lit≤ k }; in-z = record { size = lit≤ l } }
 
-module _ (solid : Solid) (bytes : List ℕ) (q s : Vector) (R : ℕ) (ps : List Pair) (m : Triangle) {t : List Vector} (ok : T (permitted solid bytes)) (inside : T (isInside (look solid bytes q))) (signed : Signs s) where
-  pub triangle-within : {c : Choice} → round (look solid bytes) q s (powers R) ps m ≡ answered c t → All (Bounded 1023) m → (x : Pair) → In x ps → All (Bounded 1023) (step m x)
-  triangle-within e h x i = step-within (look solid bytes) 1023 (solid-cube solid bytes ok) q s (solid-cube solid bytes ok q inside) signed R ps m e h x i
+-- what a walk on a solid is about
+abbrev pub probeOn : Solid → List ℕ → Vector → Vector → ℕ → Probe
+probeOn solid bytes q s R = record { look = look solid bytes; apex = q; signs = s; powers = powers R }
+
+module _ (solid : Solid) (bytes : List ℕ) (q s : Vector) (R : ℕ) (ps : List Pair) (m : Triangle) (ok : T (permitted solid bytes)) (inside : T (isInside (look solid bytes q))) (signed : Signs s) where
+  abbrev c : Probe
+  c = probeOn solid bytes q s R
+
+  pub triangle-within : {y : Choice} {t : List Vector} → round (probeOn solid bytes q s R) ps m ≡ answered y t → All (Bounded 1023) m → (x : Pair) → In x ps → All (Bounded 1023) (step m x)
+  triangle-within e h x i = step-within c 1023 (solid-cube solid bytes ok) (solid-cube solid bytes ok q inside) signed (powers-begin R .0) (powers-begin R .1) ps m e h x i
 
   -- so by the pair that the round chose
-  pub chosen-within : (x : Pair) → round (look solid bytes) q s (powers R) ps m ≡ answered (Chosen x) t → All (Bounded 1023) m → All (Bounded 1023) (step m x)
-  chosen-within x e h = triangle-within e h x (chosen-in (look solid bytes) q s (powers R) m ps x (says-answered (round-says (look solid bytes) q s (powers R) ps m) e .holds))
+  pub chosen-within : (x : Pair) {t : List Vector} → round (probeOn solid bytes q s R) ps m ≡ answered (Chosen x) t → All (Bounded 1023) m → All (Bounded 1023) (step m x)
+  chosen-within x e h = triangle-within e h x (chosen-in c m ps x (says-answered (round-says c ps m) e .holds))

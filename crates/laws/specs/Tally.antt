@@ -1,5 +1,5 @@
--- A question after another goes on from what the first gave: with its answer and count, or not at all after its refusal.
--- So every way out of the code is told by one law for each question that it asked.
+-- A tally is what the code keeps of a question: its answer or its refusal, with the looks counted on from those before. A question after another goes on from
+-- what the first gave: with its answer and count, or not at all after its refusal. So every way out of the code is told by one law for each question that it asked.
 use mathlib.Core.Path.{_≡_, refl, sym, ap, _∙_}
 use mathlib.Core.Bool.{Bool, true, false}
 use mathlib.Core.List.{List, [], _++_, append-nil}
@@ -9,8 +9,24 @@ use lib.ListN.{length, length-append}
 use Rattle.rules.specs.declared.Vector.{Vector}
 use Rattle.rules.specs.Asked.{Asked, answered, refused, after, _>>=_}
 use Rattle.rules.specs.Walk.{Stop, stop, ensure, asked}
-use Rattle.falls.specs.Tally.{Tally, yes, no, tally, Gives}
 
+pub data Tally (E A : Type 0) : Type 0 where
+  yes : A → ℕ → Tally E A
+  no : E → ℕ → Tally E A
+
+unfoldable pub tally : {E A : Type 0} → ℕ → Asked E A → Tally E A
+tally n (answered a t) = yes a (n + length t)
+tally n (refused e t) = no e (n + length t)
+
+-- after n looks the question x gives r
+pub record Gives {E A : Type 0} (n : ℕ) (x : Asked E A) (r : Tally E A) : Type 0 where
+  pub is : r ≡ tally n x
+
+-- a question gives one tally: two answers, each made again of one that it gives, are equal
+pub gives-settled : {E A R : Type 0} {n : ℕ} {x : Asked E A} {p o : Tally E A} {r t : R} (made : Tally E A → R) → made p ≡ r → made o ≡ t → Gives n x p → Gives n x o → r ≡ t
+gives-settled made i j h k = sym i ∙ ap made (h .is ∙ sym (k .is)) ∙ j
+
+-- ---- one question and then another
 counts-on : (n : ℕ) (t s : List Vector) → n + length t + length s ≡ n + length (t ++ s)
 counts-on n t s = omega (arith, length-append t s)
 
