@@ -42,20 +42,20 @@ module _ (c : Probe) where
   pub stood-among : {s t : List Vector} (u : Vector) → Among s t → Stood s u → Stood t u
   stood-among u a h l i = stood-there a (h l i)
 
-  look-empty : (p : Vector) {t : List Vector} → lookAt c p ≡ answered false t → In p t × (c .look p ≡ Empty)
+  look-empty : (p : Vector) {t : List Vector} → lookAt (c .look) p ≡ answered false t → In p t × (c .look p ≡ Empty)
   look-empty p e = let h = says-answered (look-says c p) e in (rw (h .1) (inl refl), h .0)
 
   -- a vector that did not fall
-  stood-at : (u : Vector) (ls : List ℕ) {t : List Vector} → fallsAt c u ls ≡ answered false t → (l : ℕ) → In l ls → StoodAt t u l
+  stood-at : (u : Vector) (ls : List ℕ) {t : List Vector} → fallsAt (c .look) (c .apex) u ls ≡ answered false t → (l : ℕ) → In l ls → StoodAt t u l
   unfolding fallsAt
   stood-at u [] e l i = absurd i
   stood-at u (k ∷ ls) {t} e l i = go (b .answer) (b .first) (b .second) (λ d. stood-at u ls d l) i
     where
-      b : Both (lookAt c (c .apex ⊕ scale (pos k) u)) (λ f. elim f [ true ↦ answered true [] | false ↦ fallsAt c u ls ]) false t
+      b : Both (lookAt (c .look) (c .apex ⊕ scale (pos k) u)) (λ f. elim f [ true ↦ answered true [] | false ↦ fallsAt (c .look) (c .apex) u ls ]) false t
       b = both-answered _ _ e
 
-      go : (f : Bool) → lookAt c (c .apex ⊕ scale (pos k) u) ≡ answered f (b .front) → _≡_ {A = Asked Vector Bool} (elim f [ true ↦ answered true [] | false ↦ fallsAt c u ls ]) (answered false (b .behind))
-          → (fallsAt c u ls ≡ answered false (b .behind) → In l ls → StoodAt (b .behind) u l) → In l (k ∷ ls) → StoodAt t u l
+      go : (f : Bool) → lookAt (c .look) (c .apex ⊕ scale (pos k) u) ≡ answered f (b .front) → _≡_ {A = Asked Vector Bool} (elim f [ true ↦ answered true [] | false ↦ fallsAt (c .look) (c .apex) u ls ]) (answered false (b .behind))
+          → (fallsAt (c .look) (c .apex) u ls ≡ answered false (b .behind) → In l ls → StoodAt (b .behind) u l) → In l (k ∷ ls) → StoodAt t u l
       go true a d r i = absurd (let z : _≡_ {A = ℕ} 0 1 = cc in omega arith)
       go false a d r (inl p) = let h = look-empty _ a in rw p (record { looked = b .firstAmong .each _ (h .0); empty = h .1 })
       go false a d r (inr i) = stood-there (b .secondAmong) (r d i)

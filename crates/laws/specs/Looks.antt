@@ -31,7 +31,7 @@ module _ (c : Probe) where
   IsOutside p = c .look p ≡ Outside
 
   -- the voxel is the only one looked at, or it is outside
-  pub look-says : (p : Vector) → Says (λ b t. (c .look p ≡ As b) × (t ≡ p ∷ [])) (λ r t. (r ≡ p) × IsOutside p × (t ≡ [])) (lookAt c p)
+  pub look-says : (p : Vector) → Says (λ b t. (c .look p ≡ As b) × (t ≡ p ∷ [])) (λ r t. (r ≡ p) × IsOutside p × (t ≡ [])) (lookAt (c .look) p)
   unfolding lookAt seen
   look-says p = go (c .look p) refl
     where
@@ -58,7 +58,7 @@ module _ (c : Probe) where
     pub is : p ≡ along u power
     pub outside : IsOutside p
 
-  falls-found : (u : Vector) (ls : List ℕ) → Says (Few (length ls) (FellAt u ls)) (Few (length ls) (Beyond u ls)) (fallsAt c u ls)
+  falls-found : (u : Vector) (ls : List ℕ) → Says (Few (length ls) (FellAt u ls)) (Few (length ls) (Beyond u ls)) (fallsAt (c .look) (c .apex) u ls)
   unfolding fallsAt
   falls-found u [] = says-answer (record { holds = tt; few = omega arith })
   falls-found u (l ∷ ls) =
@@ -75,8 +75,8 @@ module _ (c : Probe) where
       further : (p : Vector) → Beyond u ls p → Beyond u (l ∷ ls) p
       further p h = record { power = h .power; isPower = inr (h .isPower); is = h .is; outside = h .outside }
 
-      go : (b : Bool) → c .look (along u l) ≡ As b → Says (Few (length ls) (FellAt u ls)) (Few (length ls) (Beyond u ls)) (fallsAt c u ls)
-          → Says (Few (length ls) (FellAt u (l ∷ ls))) (Few (length ls) (Beyond u (l ∷ ls))) (elim b [ true ↦ answered true [] | false ↦ fallsAt c u ls ])
+      go : (b : Bool) → c .look (along u l) ≡ As b → Says (Few (length ls) (FellAt u ls)) (Few (length ls) (Beyond u ls)) (fallsAt (c .look) (c .apex) u ls)
+          → Says (Few (length ls) (FellAt u (l ∷ ls))) (Few (length ls) (Beyond u (l ∷ ls))) (elim b [ true ↦ answered true [] | false ↦ fallsAt (c .look) (c .apex) u ls ])
       go true e r = says-answer (record { holds = inl e; few = omega arith })
       go false e r = says-weaker _ (λ b t f. record { holds = later b e (f .holds); few = f .few }) (λ p t f. record { holds = further p (f .holds); few = f .few }) r
 

@@ -58,7 +58,7 @@ module _ (ok : Bool) (look : Vector → Look) (p : Vector) (frame reach : ℤ) w
     pub ends : Faced → (v : Levels) (e : Triangle × ℕ) (t : List Vector) → Ended v e t → T (leb (size (levelled v (normal (e .0)))) (natAbs reach)) → Finds (found (probe look p frame reach) (natAbs reach) v e) t
 
   -- a look at a voxel that was judged inside
-  looked : {G : Stop → List Vector → Type 0} (a : Vector) → T (isInside (look a)) → Says (λ b t. (look a ≡ As b) × (t ≡ a ∷ [])) G (asked 0 (lookAt c a))
+  looked : {G : Stop → List Vector → Type 0} (a : Vector) → T (isInside (look a)) → Says (λ b t. (look a ≡ As b) × (t ≡ a ∷ [])) G (asked 0 (lookAt (c .look) a))
   looked a i = says-asked 0 _ (λ r t h. absurd (not-outside look a i (h .1))) (look-says c a)
 
   module _ {Level : Levels → List Vector → Type 0} {Ended : Levels → Triangle × ℕ → List Vector → Type 0} {Finds : Found → List Vector → Type 0} {Stops : Stop → List Vector → Type 0} (rule : PickRule Level Ended Finds Stops) where

@@ -3,12 +3,14 @@
 use mathlib.Core.Path.{_≡_, refl, sym, ap, _∙_}
 use mathlib.Core.Bool.{Bool, true, false}
 use mathlib.Core.List.{List, [], _++_, append-nil}
-use Prim.Native.Nat.{ℕ, _+_}
+use Prim.Native.Nat.{ℕ, _+_, _*_, _≤_}
 use native.Mathlib.Omega.{arith}
 use lib.ListN.{length, length-append}
 use Rattle.rules.specs.declared.Vector.{Vector}
+use Rattle.rules.specs.declared.Look.{Look}
+use Rattle.rules.specs.declared.Look.the-variants.{Filled, Empty, Outside}
 use Rattle.rules.specs.Asked.{Asked, answered, refused, after, _>>=_}
-use Rattle.rules.specs.Walk.{Stop, stop, ensure, asked}
+use Rattle.rules.specs.Walk.{Stop, stop, ensure, seen, asked, lookAt}
 
 pub data Tally (E A : Type 0) : Type 0 where
   yes : A → ℕ → Tally E A
@@ -25,6 +27,10 @@ pub record Gives {E A : Type 0} (n : ℕ) (x : Asked E A) (r : Tally E A) : Type
 -- a question gives one tally: two answers, each made again of one that it gives, are equal
 pub gives-settled : {E A R : Type 0} {n : ℕ} {x : Asked E A} {p o : Tally E A} {r t : R} (made : Tally E A → R) → made p ≡ r → made o ≡ t → Gives n x p → Gives n x o → r ≡ t
 gives-settled made i j h k = sym i ∙ ap made (h .is ∙ sym (k .is)) ∙ j
+
+-- so many falls questions more can be counted in 32 bits, each with at most 512 looks
+abbrev pub Countable : ℕ → ℕ → Type 0
+Countable questions looks = looks + 512 * questions ≤ 4294967295
 
 -- ---- one question and then another
 counts-on : (n : ℕ) (t s : List Vector) → n + length t + length s ≡ n + length (t ++ s)
@@ -106,6 +112,20 @@ module _ {A : Type 0} (steps : ℕ) where
       by : (x : Asked Vector A) → no p k ≡ tally n x → no (stop 8 p steps) k ≡ tally n (asked steps x)
       by (answered b t) e = absurd (let z : _≡_ {A = ℕ} 0 1 = cc in omega arith)
       by (refused p t) e = cc
+
+-- ---- one look
+module _ (look : Vector → Look) (n : ℕ) (p : Vector) where
+  pub filled-there : look p ≡ Filled → Gives n (lookAt look p) (yes true (n + 1))
+  unfolding lookAt seen tally
+  filled-there e = record { is = rw e }
+
+  pub empty-there : look p ≡ Empty → Gives n (lookAt look p) (yes false (n + 1))
+  unfolding lookAt seen tally
+  empty-there e = record { is = rw e }
+
+  pub outside-there : look p ≡ Outside → Gives n (lookAt look p) (no p n)
+  unfolding lookAt seen tally
+  outside-there e = record { is = rw e (ap (no p) (omega arith)) }
 
 -- ---- what a tally says of the question
 pub was-answered : {E A : Type 0} {n : ℕ} (x : Asked E A) {a : A} {k : ℕ} → Gives n x (yes a k) → (t : List Vector) × (x ≡ answered a t)

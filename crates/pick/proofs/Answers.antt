@@ -25,8 +25,8 @@ use Rattle.laws.specs.Boxes.{look-inside}
 use Rattle.rules.specs.Asked.{Asked, answered, refused}
 use Rattle.rules.specs.Walk.{Stop, stop, signs, powers, pairs, levelled, normal, units, walk, Found, found, start, rounds}
 use Rattle.rules.specs.Pick.{isInside, pick, answer, pickOf}
-use Rattle.falls.specs.Tally.{Tally, yes, no, tally, Gives}
-use Rattle.falls.proofs.Tallies.{then-yes, then-no, ensured, not-ensured, at-once}
+use Rattle.laws.specs.Tally.{Tally, yes, no, tally, Gives}
+use Rattle.laws.specs.Tally.{then-yes, then-no, ensured, not-ensured, at-once}
 use Rattle.pick.specs.Pick.{told, layTriangle, ending, beginning, placing, Ended, Rounded, Begun, Placed, Picked}
 use Rattle.start.specs.Start.{Started}
 use Rattle.start.specs.declared.Start.{Start}
@@ -47,11 +47,11 @@ module _ (s q : Vector) (R : ℕ) (v : Levels) (m : Triangle) (steps looks : ℕ
   ending-refused e = then-no _ (not-ensured e)
 
 module _ (look : Vector → Look) (s q : Vector) (R : ℕ) (v : Levels) (looks : ℕ) where
-  rounds-ended : {m : Triangle} {n k : ℕ} {r : Tally Stop Found} → Gives looks (walk look q s (powers R) (taking v pairs) (allowed R v) 0 units) (yes (m, n) k) → Gives k (ending s q R v (m, n)) r → Gives looks (rounds look s q R v) r
+  rounds-ended : {m : Triangle} {n k : ℕ} {r : Tally Stop Found} → Gives looks (walk c (taking v pairs) (allowed R v) 0 units) (yes (m, n) k) → Gives k (ending s q R v (m, n)) r → Gives looks (rounds look s q R v) r
   unfolding rounds ending
   rounds-ended h g = then-yes _ h g
 
-  rounds-refused : {e : Stop} {k : ℕ} → Gives looks (walk look q s (powers R) (taking v pairs) (allowed R v) 0 units) (no e k) → Gives looks (rounds look s q R v) (no e k)
+  rounds-refused : {e : Stop} {k : ℕ} → Gives looks (walk c (taking v pairs) (allowed R v) 0 units) (no e k) → Gives looks (rounds look s q R v) (no e k)
   unfolding rounds
   rounds-refused h = then-no _ h
 
@@ -127,14 +127,14 @@ module _ {s q : Vector} {R : ℕ} {v : Levels} {m : Triangle} {steps looks : ℕ
   pub ended-refused : {r : Refused} → R < k → r ≡ refusalOf 10 q steps looks → Ended s q R v m steps looks (IsRefused r)
   ended-refused h e = record { gives = rw e (ending-refused s q R v m steps looks (lt-leb _ _ (rw (b, a, w) at h))) }
 
-module _ {look : Vector → Look} {s q : Vector} {R : ℕ} {v : Levels} {looks : ℕ} {w : Walked} (h : Walks look q s R v looks w) where
+module _ {look : Vector → Look} {s q : Vector} {R : ℕ} {v : Levels} {looks : ℕ} {w : Walked} (h : Walks c R v looks w) where
   pub rounded-ended : {m : Triangle} {n k : ℕ} {r : Pick} → w ≡ WalkEnded m n k → Ended s q R v m n k r → Rounded look s q R v looks r
   rounded-ended e g = record { gives = rounds-ended look s q R v looks (rw e at (h .gives)) (g .gives) }
 
   pub rounded-refused : {r : Refused} → w ≡ WalkRefused r → Rounded look s q R v looks (IsRefused r)
   rounded-refused e = record { gives = rounds-refused look s q R v looks (rw e at (h .gives)) }
 
-module _ {look : Vector → Look} {s p q : Vector} {R : ℕ} {b : Start} (h : Started look q s R p b) where
+module _ {look : Vector → Look} {s p q : Vector} {R : ℕ} {b : Start} (h : Started c R p b) where
   pub begun-rounds : {v : Levels} {n : ℕ} {r : Pick} → b ≡ StartBegun v n → Rounded look s q R v n r → Begun look s p q R r
   begun-rounds e g = record { gives = begun-on look s p q R (rw e at (h .gives)) (g .gives) }
 

@@ -17,12 +17,12 @@ use Rattle.rules.specs.Asked.{Asked, answered, _>>=_, _>>_}
 use Rattle.rules.specs.Walk.{Stop, stop, ensure, signs, triangle, levelled, normal, Found, found, start, rounds}
 use Rattle.rules.specs.Pick.{isInside, pickOf}
 use Rattle.falls.specs.declared.Scene.{Scene}
-use Rattle.falls.specs.Tally.{Tally, yes, Gives}
-use Rattle.walk.specs.Walk.{toldRefusal}
+use Rattle.laws.specs.Tally.{Tally, yes, Gives}
+use Rattle.walk.specs.Walk.{refusalTally}
 
 abbrev pub told : Pick → Tally Stop Found
 told (Accepted a) = yes record { normal = a .normal; triangle = a .triangle; apex = a .apex; steps = a .steps } (a .looks)
-told (Refused r) = toldRefusal r
+told (Refused r) = refusalTally r
 
 abbrev pub layTriangle : Vector → Triangle → Triangle
 layTriangle s m = triangle (lay s (m .m0)) (lay s (m .m1)) (lay s (m .m2))

@@ -194,6 +194,18 @@ firstFree m falling (x ∷ xs) = elim (anyInside m x falling) [ false ↦ Chosen
 unfoldable pub choice : Triangle → List Pair → Choice
 choice m falling = firstFree m falling falling
 
+-- ---- the questions of one solid
+module _ (look : Vector → Look) where
+  unfoldable pub lookAt : Vector → Asked Vector Bool
+  lookAt p = seen (look p) p
+
+  -- a vector u, laid in, falls if q + l·u is filled for some power l. Powers are looked at upward and asking stops at the first filled one
+  unfoldable pub fallsAt : Vector → Vector → List ℕ → Asked Vector Bool
+  fallsAt q u [] = answered false []
+  fallsAt q u (l ∷ ls) = do
+    f ← lookAt (q ⊕ scale (pos l) u)
+    elim f [ true ↦ answered true [] | false ↦ fallsAt q u ls ]
+
 -- ---- what a walk is about: a solid's look, the apex q, the signs s of the frame and the powers
 pub record Probe : Type 0 where
   pub look : Vector → Look
@@ -218,25 +230,15 @@ module _ (c : Probe) where
   abbrev s : Vector
   s = c .signs
 
-  unfoldable pub lookAt : Vector → Asked Vector Bool
-  lookAt p = seen (c .look p) p
-
-  -- a vector u, laid in, falls if q + l·u is filled for some power l. Powers are looked at upward and asking stops at the first filled one
-  unfoldable pub fallsAt : Vector → List ℕ → Asked Vector Bool
-  fallsAt u [] = answered false []
-  fallsAt u (l ∷ ls) = do
-    f ← lookAt (q ⊕ scale (pos l) u)
-    elim f [ true ↦ answered true [] | false ↦ fallsAt u ls ]
-
   abbrev pub falls : Vector → Asked Vector Bool
-  falls u = fallsAt u (c .powers)
+  falls u = fallsAt (c .look) q u (c .powers)
 
   -- 1. look at p, then, if p is filled, q
   unfoldable pub facing : Vector → Asked Stop (Unit {0})
   facing p = do
-    f ← asked 0 (lookAt p)
+    f ← asked 0 (lookAt (c .look) p)
     ensure f (stop 5 p 0)
-    g ← asked 0 (lookAt q)
+    g ← asked 0 (lookAt (c .look) q)
     ensure (not g) (stop 6 q 0)
 
   -- 2. ask whether minus an axis's unit vector falls. When it doesn't, its opposite is asked too: refusal 7 if that falls, else the axis is level

@@ -10,9 +10,9 @@ use Rattle.rules.specs.declared.Levels.{Levels}
 use Rattle.rules.specs.declared.Refused.{Refused}
 use Rattle.rules.specs.Asked.{_>>=_}
 use Rattle.rules.specs.Walk.{Stop, stop, ensure, asked, lookAt, powers, axes, start}
-use Rattle.falls.specs.Tally.{Tally, no, Gives}
-use Rattle.falls.proofs.Tallies.{then-yes, then-no, asked-yes, asked-no, ensured, not-ensured}
-use Rattle.falls.proofs.Powers.{filled-there, empty-there, outside-there}
+use Rattle.laws.specs.Tally.{Tally, no, Gives}
+use Rattle.laws.specs.Tally.{then-yes, then-no, asked-yes, asked-no, ensured, not-ensured}
+use Rattle.laws.specs.Tally.{filled-there, empty-there, outside-there}
 use Rattle.walk.specs.Walk.{refusalOf}
 use Rattle.start.specs.Start.{AxesAsked, Started}
 use Rattle.start.specs.declared.Start.{Start}
@@ -28,7 +28,7 @@ module _ (look : Vector → Look) (s p q : Vector) (reach : ℕ) where
   start-empty e = then-yes _ (asked-yes 0 (empty-there look 0 p e)) (then-no _ (not-ensured refl))
 
   module _ (f : look p ≡ Filled) where
-    start-apex : {r : Tally Stop Levels} → Gives 1 (asked 0 (lookAt look q) >>= λ g. ensure (not g) (stop 6 q 0) >>= λ _. axes look q s (powers reach)) r → Gives 0 (start look s p q reach) r
+    start-apex : {r : Tally Stop Levels} → Gives 1 (asked 0 (lookAt look q) >>= λ g. ensure (not g) (stop 6 q 0) >>= λ _. axes c) r → Gives 0 (start look s p q reach) r
     unfolding start
     start-apex h = then-yes _ (asked-yes 0 (filled-there look 0 p f)) (then-yes _ (ensured (stop 5 p 0) refl) h)
 
@@ -38,25 +38,25 @@ module _ (look : Vector → Look) (s p q : Vector) (reach : ℕ) where
     apex-filled : look q ≡ Filled → Gives 0 (start look s p q reach) (no (stop 6 q 0) 2)
     apex-filled e = start-apex (then-yes _ (asked-yes 0 (filled-there look 1 q e)) (then-no _ (not-ensured refl)))
 
-    apex-empty : {r : Tally Stop Levels} → look q ≡ Empty → Gives 2 (axes look q s (powers reach)) r → Gives 0 (start look s p q reach) r
+    apex-empty : {r : Tally Stop Levels} → look q ≡ Empty → Gives 2 (axes c) r → Gives 0 (start look s p q reach) r
     apex-empty e h = start-apex (then-yes _ (asked-yes 0 (empty-there look 1 q e)) (then-yes _ (ensured (stop 6 q 0) refl) h))
 
 -- ---- from what the looks and the axes promised to what the start promises
-module _ {look : Vector → Look} {q s : Vector} {reach : ℕ} {p : Vector} {a : Look} (ha : a ≡ look p) where
-  pub started-outside : {r : Refused} → a ≡ Outside → r ≡ refusalOf 8 p 0 0 → Started look q s reach p (IsRefused r)
+module _ {c : Probe} {p : Vector} {a : Look} (ha : a ≡ look p) where
+  pub started-outside : {r : Refused} → a ≡ Outside → r ≡ refusalOf 8 p 0 0 → Started c p (IsRefused r)
   started-outside e f = record { gives = rw f (start-outside look s p q reach (sym ha ∙ e)); few = omega (arith, ap (λ (r : Refused). r .looks) f) }
 
-  pub started-empty : {r : Refused} → a ≡ Empty → r ≡ refusalOf 5 p 0 1 → Started look q s reach p (IsRefused r)
+  pub started-empty : {r : Refused} → a ≡ Empty → r ≡ refusalOf 5 p 0 1 → Started c p (IsRefused r)
   started-empty e f = record { gives = rw f (start-empty look s p q reach (sym ha ∙ e)); few = omega (arith, ap (λ (r : Refused). r .looks) f) }
 
   module _ {b : Look} (e : a ≡ Filled) (hb : b ≡ look q) where
-    pub started-apex-outside : {r : Refused} → b ≡ Outside → r ≡ refusalOf 8 q 0 1 → Started look q s reach p (IsRefused r)
+    pub started-apex-outside : {r : Refused} → b ≡ Outside → r ≡ refusalOf 8 q 0 1 → Started c p (IsRefused r)
     started-apex-outside g f = record { gives = rw f (apex-outside look s p q reach (sym ha ∙ e) (sym hb ∙ g)); few = omega (arith, ap (λ (r : Refused). r .looks) f) }
 
-    pub started-apex-filled : {r : Refused} → b ≡ Filled → r ≡ refusalOf 6 q 0 2 → Started look q s reach p (IsRefused r)
+    pub started-apex-filled : {r : Refused} → b ≡ Filled → r ≡ refusalOf 6 q 0 2 → Started c p (IsRefused r)
     started-apex-filled g f = record { gives = rw f (apex-filled look s p q reach (sym ha ∙ e) (sym hb ∙ g)); few = omega (arith, ap (λ (r : Refused). r .looks) f) }
 
-    pub started-axes : {r : Start} → b ≡ Empty → AxesAsked look q s reach 2 r → Started look q s reach p r
+    pub started-axes : {r : Start} → b ≡ Empty → AxesAsked c 2 r → Started c p r
     started-axes g h = record { gives = apex-empty look s p q reach (sym ha ∙ e) (sym hb ∙ g) (h .gives); few = h .few }
 
 pub ruleset starting = (started-outside, started-empty, started-apex-outside, started-apex-filled, started-axes)

@@ -5,7 +5,7 @@ ghost use Rattle.rules.specs.Vectors.{minus, lay};
 ghost use Rattle.laws.specs.Ranges.{Bounded};
 ghost use Rattle.laws.specs.Frames.{Signs};
 ghost use Rattle.falls.specs.Scene.{Ready};
-ghost use Rattle.falls.specs.Falls.{looksOf};
+ghost use Rattle.falls.specs.Falls.{fallsLooks};
 ghost use Rattle.start.specs.Start.{OpposedIn, MinusAskedIn, OppositeAskedIn, AxisJudgedIn, LevelsJudgedIn, AxesAskedIn, StartedIn};
 use falls::Falls;
 use falls::Scene;
@@ -48,7 +48,7 @@ fn refuse_axis(scene: Scene, e: Vector, looks: u32) -> Refused
 // Whether minus the unit vector e falls.
 fn ask_minus(scene: Scene, bytes: &[u8], e: Vector, looks: u32) -> Falls
     requires { ⌜ Ready scene (now bytes) × Bounded 1 e × (looks ≤ 4000) ⌝ }
-    ensures { λ r. ⌜ MinusAskedIn scene (now (bytes .entry)) e looks r ⌝ }
+    ensures { λ r. ⌜ MinusAsked (probeOf scene (now (bytes .entry))) e looks r ⌝ }
 {
     let s = scene.signs;
     let u = lay_minus(s, e);
@@ -58,7 +58,7 @@ fn ask_minus(scene: Scene, bytes: &[u8], e: Vector, looks: u32) -> Falls
 // Minus the unit vector e doesn't fall, so its opposite is asked too: refusal 7 if that falls, else the axis is level.
 fn ask_opposite(scene: Scene, bytes: &[u8], e: Vector, looks: u32) -> AxisAnswer
     requires { ⌜ Ready scene (now bytes) × Bounded 1 e × (looks ≤ 4000) ⌝ }
-    ensures { λ r. ⌜ OppositeAskedIn scene (now (bytes .entry)) e looks r ⌝ }
+    ensures { λ r. ⌜ OppositeAsked (probeOf scene (now (bytes .entry))) e looks r ⌝ }
 {
     let s = scene.signs;
     let u = space::lay(s, e);
@@ -75,8 +75,8 @@ fn ask_opposite(scene: Scene, bytes: &[u8], e: Vector, looks: u32) -> AxisAnswer
 
 // Whether the axis of the unit vector e is level, once minus e was asked.
 fn judge_axis(scene: Scene, bytes: &[u8], e: Vector, asked: Falls) -> AxisAnswer
-    requires { ⌜ Ready scene (now bytes) × Bounded 1 e × (looksOf asked ≤ 4000) ⌝ }
-    ensures { λ r. ⌜ AxisJudgedIn scene (now (bytes .entry)) e asked r ⌝ }
+    requires { ⌜ Ready scene (now bytes) × Bounded 1 e × (fallsLooks asked ≤ 4000) ⌝ }
+    ensures { λ r. ⌜ AxisJudged (probeOf scene (now (bytes .entry))) e asked r ⌝ }
 {
     match asked {
         Falls::Fell(n) => AxisAnswer::Asked(false, n),
@@ -101,7 +101,7 @@ fn judge_levels(scene: Scene, level: Levels, looks: u32) -> Start
 // Axis 0, 1, 2. A question and its judgement are two calls: in one, an axis is compiled as a function of its own that calls the question, and typical picks take 4 to 11% longer.
 fn ask_axes(scene: Scene, bytes: &[u8], looks: u32) -> Start
     requires { ⌜ Ready scene (now bytes) × (looks ≤ 2) ⌝ }
-    ensures { λ r. ⌜ AxesAskedIn scene (now (bytes .entry)) looks r ⌝ }
+    ensures { λ r. ⌜ AxesAsked (probeOf scene (now (bytes .entry))) looks r ⌝ }
 {
     let e0 = Vector { x: 1, y: 0, z: 0 };
     let a = judge_axis(scene, bytes, e0, ask_minus(scene, bytes, e0, looks));
@@ -131,7 +131,7 @@ fn ask_axes(scene: Scene, bytes: &[u8], looks: u32) -> Start
 // Look at p, then, if p is filled, q; then the axes.
 pub fn start_at(scene: Scene, bytes: &[u8], p: Vector) -> Start
     requires { ⌜ Ready scene (now bytes) ⌝ }
-    ensures { λ r. ⌜ StartedIn scene (now (bytes .entry)) p r ⌝ }
+    ensures { λ r. ⌜ Started (probeOf scene (now (bytes .entry))) p r ⌝ }
 {
     let solid = scene.solid;
     let q = scene.apex;

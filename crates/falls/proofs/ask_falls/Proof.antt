@@ -5,7 +5,7 @@ use borrow.Author.Needs.{needs}
 use Rattle.rules.specs.Solids.{look}
 use Rattle.falls.specs.Falls.{Falling}
 use Rattle.falls.proofs.Powers.{way-fits, falls-begins, looked}
-use Rattle.falls.proofs.Scenes.{apex-fits}
+use Rattle.falls.specs.Sizes.{apex-fits}
 use Rattle.falls.proofs.ask_falls.Statement.{statement}
 use Rattle.falls.proofs.ask_falls.Tie as tie
 

@@ -5,7 +5,7 @@ use borrow.Author.Needs.{needs}
 use Rattle.laws.specs.Frames.{signs-are}
 use Rattle.space.specs.Bounds.{bounded-is, bounded-wider}
 use Rattle.solid.specs.Facts.{inside-bounded}
-use Rattle.falls.proofs.Scenes.{signs-bounded}
+use Rattle.falls.specs.Sizes.{signs-bounded}
 use Rattle.pick.proofs.Answers.{answering}
 use Rattle.pick.proofs.place.Statement.{statement}
 use Rattle.pick.proofs.place.Tie as tie

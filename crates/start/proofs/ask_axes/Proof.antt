@@ -1,7 +1,7 @@
 -- `start::ask_axes` meets its contract: axis by axis, each with the rest that its answer leaves.
 use native.Mathlib.Omega.{arith}
 use borrow.Author.Needs.{needs}
-use Rattle.falls.proofs.Scenes.{apex-fits}
+use Rattle.falls.specs.Sizes.{apex-fits}
 use Rattle.start.proofs.Axes.{axis-few, in-turn}
 use Rattle.start.proofs.ask_axes.Statement.{statement}
 use Rattle.start.proofs.ask_axes.Tie as tie

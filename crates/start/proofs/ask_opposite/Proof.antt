@@ -1,7 +1,7 @@
 -- `start::ask_opposite` meets its contract: by what `ask_falls` promises of the unit vector.
 use native.Mathlib.Omega.{arith}
 use borrow.Author.Needs.{needs}
-use Rattle.falls.proofs.Scenes.{apex-fits}
+use Rattle.falls.specs.Sizes.{apex-fits}
 use Rattle.start.proofs.Axes.{fitting, opposing}
 use Rattle.start.proofs.ask_opposite.Statement.{statement}
 use Rattle.start.proofs.ask_opposite.Tie as tie

@@ -1,4 +1,4 @@
--- Sizes of what a scene holds.
+-- Sizes of what a scene holds: the apex lies in the box, and a sign's size is 1.
 use mathlib.Core.Logic.{inl, inr}
 use mathlib.Core.List.{List}
 use Prim.Native.Nat.{ℕ}
