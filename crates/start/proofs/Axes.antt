@@ -6,12 +6,11 @@ use Prim.Native.Nat.{ℕ, _+_, _≤_}
 use native.Mathlib.Omega.{arith}
 use lib.Dec.{lit≤}
 use Rattle.rules.specs.declared.Vector.{Vector}
-use Rattle.rules.specs.declared.Look.{Look}
 use Rattle.rules.specs.declared.Levels.{Levels}
 use Rattle.rules.specs.declared.Refused.{Refused}
 use Rattle.rules.specs.Vectors.{_⊕_, minus, lay, unit0, unit1, unit2}
-use Rattle.rules.specs.Walk.{powers, levels, allLevel, falls, isLevel, axes}
-use Rattle.laws.specs.Tally.{Gives}
+use Rattle.rules.specs.Walk.{levels, allLevel, Probe, falls, isLevel, axes}
+use Rattle.laws.specs.Tally.{Gives, then-yes, then-no, asked-yes, asked-no, ensured, not-ensured, at-once}
 use Rattle.falls.specs.declared.Falls.{Falls}
 use Rattle.falls.specs.declared.Falls.the-variants.{Fell, Kept, Stopped}
 use Rattle.laws.specs.Frames.{Signs}
@@ -20,7 +19,6 @@ use Rattle.space.specs.Bounds.{bounded-is, bounded-wider, bounded-opposite, bou
 use Rattle.falls.specs.Falls.{Fallen, fallsTally, fallsLooks}
 use Rattle.falls.specs.Sizes.{signs-bounded}
 use Rattle.walk.specs.Walk.{refusalOf}
-use Rattle.laws.specs.Tally.{then-yes, then-no, asked-yes, asked-no, ensured, not-ensured, at-once}
 use Rattle.start.specs.Start.{axisRefusal, judging, opposite, Opposed, LevelsJudged, MinusAsked, OppositeAsked, AxisJudged, AxesAsked, axisTally, axisLooks}
 use Rattle.start.specs.declared.AxisAnswer.{AxisAnswer}
 use Rattle.start.specs.declared.AxisAnswer.the-variants.{Asked as IsAsked, Refused as AxisRefused}
@@ -31,27 +29,27 @@ abbrev looksIn : Refused → ℕ
 looksIn r = r .looks
 
 -- what the falls question gave, of the vector w, once its answer is known
-gave : (w : Vector) {look : Vector → Look} {q u : Vector} {reach n : ℕ} {f : Falls} (g : Falls) → Fallen look q u reach n f → u ≡ w → f ≡ g → Gives n (falls look q w (powers reach)) (fallsTally g)
+gave : (w : Vector) {c : Probe} {u : Vector} {n : ℕ} {f : Falls} (g : Falls) → Fallen c u n f → u ≡ w → f ≡ g → Gives n (falls c w) (fallsTally g)
 gave w g h a i = rw (← a, ← i) (h .gives)
 
 -- ---- the opposite, from what the falls question promised
-module _ {c : Probe} {e : Vector} {n : ℕ} {f : Falls} {u : Vector} (h : Fallen look q u reach n f) (a : u ≡ lay s e) where
-  pub opposite-fell : {k : ℕ} {r : Refused} → f ≡ Fell k → Opposed q s e k r → OppositeAsked c e n (AxisRefused r)
+module _ {c : Probe} {e : Vector} {n : ℕ} {f : Falls} {u : Vector} (h : Fallen c u n f) (a : u ≡ lay (c .signs) e) where
+  pub opposite-fell : {k : ℕ} {r : Refused} → f ≡ Fell k → Opposed (c .apex) (c .signs) e k r → OppositeAsked c e n (AxisRefused r)
   unfolding opposite
-  opposite-fell {k} i l = record { gives = rw (l .is) (then-yes _ (asked-yes 0 (gave (lay s e) (Fell k) h a i)) (then-no _ (not-ensured refl))); few = omega (arith, h .few, ap fallsLooks i, ap looksIn (l .is)) }
+  opposite-fell {k} i l = record { gives = rw (l .is) (then-yes _ (asked-yes 0 (gave (lay (c .signs) e) (Fell k) h a i)) (then-no _ (not-ensured refl))); few = omega (arith, h .few, ap fallsLooks i, ap looksIn (l .is)) }
 
   pub opposite-kept : {k : ℕ} → f ≡ Kept k → OppositeAsked c e n (IsAsked true k)
   unfolding opposite
-  opposite-kept {k} i = record { gives = then-yes _ (asked-yes 0 (gave (lay s e) (Kept k) h a i)) (then-yes _ (ensured (axisRefusal q s e) refl) at-once); few = omega (arith, h .few, ap fallsLooks i) }
+  opposite-kept {k} i = record { gives = then-yes _ (asked-yes 0 (gave (lay (c .signs) e) (Kept k) h a i)) (then-yes _ (ensured (axisRefusal (c .apex) (c .signs) e) refl) at-once); few = omega (arith, h .few, ap fallsLooks i) }
 
   pub opposite-stopped : {k : ℕ} {p : Vector} {r : Refused} → f ≡ Stopped p k → r ≡ refusalOf 8 p 0 k → OppositeAsked c e n (AxisRefused r)
   unfolding opposite
-  opposite-stopped {k} {p} i l = record { gives = rw l (then-no _ (asked-no 0 (gave (lay s e) (Stopped p k) h a i))); few = omega (arith, h .few, ap fallsLooks i, ap looksIn l) }
+  opposite-stopped {k} {p} i l = record { gives = rw l (then-no _ (asked-no 0 (gave (lay (c .signs) e) (Stopped p k) h a i))); few = omega (arith, h .few, ap fallsLooks i, ap looksIn l) }
 
 pub ruleset opposing = (opposite-fell, opposite-kept, opposite-stopped)
 
 -- ---- one axis, from what the question of minus its unit vector gave
-pub minus-asked : {c : Probe} {e : Vector} {n : ℕ} {f : Falls} {u : Vector} → u ≡ lay s (minus e) → Fallen look q u reach n f → MinusAsked c e n f
+pub minus-asked : {c : Probe} {e : Vector} {n : ℕ} {f : Falls} {u : Vector} → u ≡ lay (c .signs) (minus e) → Fallen c u n f → MinusAsked c e n f
 minus-asked a h = record { gives = rw a at (h .gives); few = h .few }
 
 module _ {c : Probe} {e : Vector} {f : Falls} where
@@ -97,10 +95,10 @@ module _ (c : Probe) where
   axis-asked : {e : Vector} {n : ℕ} {f : Falls} {a r : AxisAnswer} → MinusAsked c e n f → AxisJudged c e f a → a ≡ r → AxisAsked e n r
   axis-asked h g i = record { gives = rw i at (g .gives h); few = omega (arith, h .few, g .few, ap axisLooks i) }
 
-pub axis-few : {look : Vector → Look} {q s e : Vector} {reach n : ℕ} {f : Falls} {a : AxisAnswer} {x : Bool} {i : ℕ} → MinusAsked c e n f → AxisJudged c e f a → a ≡ IsAsked x i → i ≤ n + 1024
-axis-few {look} {q} {s} {reach = reach} h g i = axis-asked c h g i .few
+pub axis-few : {c : Probe} {e : Vector} {n : ℕ} {f : Falls} {a : AxisAnswer} {x : Bool} {i : ℕ} → MinusAsked c e n f → AxisJudged c e f a → a ≡ IsAsked x i → i ≤ n + 1024
+axis-few {c} h g i = axis-asked c h g i .few
 
-module _ {look : Vector → Look} {q s : Vector} {reach n : ℕ} {f : Falls} {a : AxisAnswer} (hf : MinusAsked c unit0 n f) (ha : AxisJudged c unit0 f a) where
+module _ {c : Probe} {n : ℕ} {f : Falls} {a : AxisAnswer} (hf : MinusAsked c unit0 n f) (ha : AxisJudged c unit0 f a) where
   pub first-refused : {r : Refused} → a ≡ AxisRefused r → AxesAsked c n (IsRefused r)
   unfolding axes
   first-refused ea = let x = axis-asked c hf ha ea in record { gives = then-no _ (x .gives); few = omega (arith, x .few) }
@@ -113,21 +111,21 @@ module _ {look : Vector → Look} {q s : Vector} {reach n : ℕ} {f : Falls} {a 
         let y = axis-asked c hg hb eb in
         record { gives = then-yes _ (x .gives) (then-no _ (y .gives)); few = omega (arith, x .few, y .few) }
 
-    module _ {y : Bool} {j : ℕ} {h : Falls} {c : AxisAnswer} (eb : b ≡ IsAsked y j) (hh : MinusAsked c unit2 j h) (hc : AxisJudged c unit2 h c) where
-      pub third-refused : {r : Refused} → c ≡ AxisRefused r → AxesAsked c n (IsRefused r)
+    module _ {y : Bool} {j : ℕ} {h : Falls} {d : AxisAnswer} (eb : b ≡ IsAsked y j) (hh : MinusAsked c unit2 j h) (hd : AxisJudged c unit2 h d) where
+      pub third-refused : {r : Refused} → d ≡ AxisRefused r → AxesAsked c n (IsRefused r)
       unfolding axes
-      third-refused ec =
+      third-refused ed =
           let x = axis-asked c hf ha ea in
           let y = axis-asked c hg hb eb in
-          let z = axis-asked c hh hc ec in
+          let z = axis-asked c hh hd ed in
           record { gives = then-yes _ (x .gives) (then-yes _ (y .gives) (then-no _ (z .gives))); few = omega (arith, x .few, y .few, z .few) }
 
-      pub axes-judged : {z : Bool} {k : ℕ} {r : Start} → c ≡ IsAsked z k → LevelsJudged q s (levels x y z) k r → AxesAsked c n r
+      pub axes-judged : {z : Bool} {k : ℕ} {r : Start} → d ≡ IsAsked z k → LevelsJudged (c .apex) (c .signs) (levels x y z) k r → AxesAsked c n r
       unfolding axes judging
-      axes-judged ec o =
+      axes-judged ed o =
           let x = axis-asked c hf ha ea in
           let y = axis-asked c hg hb eb in
-          let z = axis-asked c hh hc ec in
+          let z = axis-asked c hh hd ed in
           record { gives = then-yes _ (x .gives) (then-yes _ (y .gives) (then-yes _ (z .gives) (o .gives))); few = omega (arith, x .few, y .few, z .few, o .few) }
 
 pub ruleset in-turn = (first-refused, second-refused, third-refused, axes-judged)

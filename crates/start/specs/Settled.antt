@@ -1,12 +1,9 @@
 -- What `start_at` ensures settles its answer: the start is made again of what it tells.
 use mathlib.Core.Path.{_≡_, refl}
-use Prim.Native.Nat.{ℕ}
 use Rattle.rules.specs.declared.Vector.{Vector}
-use Rattle.rules.specs.declared.Look.{Look}
 use Rattle.rules.specs.declared.Levels.{Levels}
-use Rattle.rules.specs.Walk.{Stop}
-use Rattle.laws.specs.Tally.{Tally, yes, no}
-use Rattle.laws.specs.Tally.{gives-settled}
+use Rattle.rules.specs.Walk.{Stop, Probe}
+use Rattle.laws.specs.Tally.{Tally, yes, no, gives-settled}
 use Rattle.walk.specs.Settled.{refusalMade}
 use Rattle.start.specs.declared.Start.{Start}
 use Rattle.start.specs.declared.Start.the-variants.{Begun, Refused as IsRefused}

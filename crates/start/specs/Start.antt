@@ -1,17 +1,14 @@
 -- The start: what it tells of the two looks, of each axis and of all three.
 use mathlib.Core.Path.{_≡_}
 use mathlib.Core.Bool.{Bool, true, not}
-use mathlib.Core.List.{List, []}
+use mathlib.Core.List.{[]}
 use Prim.Native.Nat.{ℕ, _+_, _≤_}
 use Rattle.rules.specs.declared.Vector.{Vector}
-use Rattle.rules.specs.declared.Look.{Look}
 use Rattle.rules.specs.declared.Levels.{Levels}
 use Rattle.rules.specs.declared.Refused.{Refused}
 use Rattle.rules.specs.Vectors.{_⊕_, minus, lay, unit0}
-use Rattle.rules.specs.Solids.{look}
 use Rattle.rules.specs.Asked.{Asked, answered, _>>=_, _>>_}
-use Rattle.rules.specs.Walk.{Stop, stop, ensure, asked, powers, allLevel, falls, isLevel, axes, start}
-use Rattle.falls.specs.declared.Scene.{Scene}
+use Rattle.rules.specs.Walk.{Stop, stop, ensure, asked, allLevel, Probe, falls, isLevel, axes, start}
 use Rattle.falls.specs.declared.Falls.{Falls}
 use Rattle.laws.specs.Tally.{Tally, yes, Gives}
 use Rattle.falls.specs.Falls.{fallsTally, fallsLooks}
@@ -58,12 +55,12 @@ module _ (c : Probe) where
   -- once minus the unit vector e does not fall
   unfoldable pub opposite : Vector → Asked Stop Bool
   opposite e = do
-    g ← asked 0 (falls look q (lay s e) (powers reach))
-    ensure (not g) (axisRefusal q s e)
+    g ← asked 0 (falls c (lay (c .signs) e))
+    ensure (not g) (axisRefusal (c .apex) (c .signs) e)
     answered true []
 
   pub record MinusAsked (e : Vector) (looks : ℕ) (r : Falls) : Type 0 where
-    pub gives : Gives looks (falls look q (lay s (minus e)) (powers reach)) (fallsTally r)
+    pub gives : Gives looks (falls c (lay (c .signs) (minus e))) (fallsTally r)
     pub few : fallsLooks r ≤ looks + 512
 
   pub record OppositeAsked (e : Vector) (looks : ℕ) (r : AxisAnswer) : Type 0 where
@@ -80,27 +77,5 @@ module _ (c : Probe) where
     pub few : startLooks r ≤ looks + 3072
 
   pub record Started (p : Vector) (r : Start) : Type 0 where
-    pub gives : Gives 0 (start look s p q reach) (startTally r)
+    pub gives : Gives 0 (start c p) (startTally r)
     pub few : startLooks r ≤ 3074
-
--- in a scene, with the bytes lent
-abbrev pub OpposedIn : Scene → Vector → ℕ → Refused → Type 0
-OpposedIn v e looks r = Opposed (v .apex) (v .signs) e looks r
-
-abbrev pub MinusAskedIn : Scene → List ℕ → Vector → ℕ → Falls → Type 0
-MinusAskedIn v bytes e looks r = MinusAsked (probeOf v bytes) e looks r
-
-abbrev pub OppositeAskedIn : Scene → List ℕ → Vector → ℕ → AxisAnswer → Type 0
-OppositeAskedIn v bytes e looks r = OppositeAsked (probeOf v bytes) e looks r
-
-abbrev pub AxisJudgedIn : Scene → List ℕ → Vector → Falls → AxisAnswer → Type 0
-AxisJudgedIn v bytes e f r = AxisJudged (probeOf v bytes) e f r
-
-abbrev pub LevelsJudgedIn : Scene → Levels → ℕ → Start → Type 0
-LevelsJudgedIn v level looks r = LevelsJudged (v .apex) (v .signs) level looks r
-
-abbrev pub AxesAskedIn : Scene → List ℕ → ℕ → Start → Type 0
-AxesAskedIn v bytes looks r = AxesAsked (probeOf v bytes) looks r
-
-abbrev pub StartedIn : Scene → List ℕ → Vector → Start → Type 0
-StartedIn v bytes p r = Started (probeOf v bytes) p r

@@ -1,12 +1,12 @@
 // The start: p, q and the axes.
 ghost use mathlib.Core.Path.{_≡_};
-ghost use Prim.Native.Nat.{_≤_};
 ghost use Rattle.rules.specs.Vectors.{minus, lay};
 ghost use Rattle.laws.specs.Ranges.{Bounded};
 ghost use Rattle.laws.specs.Frames.{Signs};
-ghost use Rattle.falls.specs.Scene.{Ready};
+ghost use Rattle.laws.specs.Tally.{Countable};
+ghost use Rattle.falls.specs.Scene.{probeOf, Ready};
 ghost use Rattle.falls.specs.Falls.{fallsLooks};
-ghost use Rattle.start.specs.Start.{OpposedIn, MinusAskedIn, OppositeAskedIn, AxisJudgedIn, LevelsJudgedIn, AxesAskedIn, StartedIn};
+ghost use Rattle.start.specs.Start.{Opposed, MinusAsked, OppositeAsked, AxisJudged, LevelsJudged, AxesAsked, Started};
 use falls::Falls;
 use falls::Scene;
 use rules::Levels;
@@ -37,7 +37,7 @@ fn lay_minus(s: Vector, e: Vector) -> Vector
 // Refusal 7: q less an axis's unit vector, laid in.
 fn refuse_axis(scene: Scene, e: Vector, looks: u32) -> Refused
     requires { ⌜ Bounded 1000000000 (scene .apex) × Signs (scene .signs) × Bounded 1 e ⌝ }
-    ensures { λ r. ⌜ OpposedIn scene e looks r ⌝ }
+    ensures { λ r. ⌜ Opposed (scene .apex) (scene .signs) e looks r ⌝ }
 {
     let q = scene.apex;
     let s = scene.signs;
@@ -47,7 +47,7 @@ fn refuse_axis(scene: Scene, e: Vector, looks: u32) -> Refused
 
 // Whether minus the unit vector e falls.
 fn ask_minus(scene: Scene, bytes: &[u8], e: Vector, looks: u32) -> Falls
-    requires { ⌜ Ready scene (now bytes) × Bounded 1 e × (looks ≤ 4000) ⌝ }
+    requires { ⌜ Ready scene (now bytes) × Bounded 1 e × Countable 1 looks ⌝ }
     ensures { λ r. ⌜ MinusAsked (probeOf scene (now (bytes .entry))) e looks r ⌝ }
 {
     let s = scene.signs;
@@ -57,7 +57,7 @@ fn ask_minus(scene: Scene, bytes: &[u8], e: Vector, looks: u32) -> Falls
 
 // Minus the unit vector e doesn't fall, so its opposite is asked too: refusal 7 if that falls, else the axis is level.
 fn ask_opposite(scene: Scene, bytes: &[u8], e: Vector, looks: u32) -> AxisAnswer
-    requires { ⌜ Ready scene (now bytes) × Bounded 1 e × (looks ≤ 4000) ⌝ }
+    requires { ⌜ Ready scene (now bytes) × Bounded 1 e × Countable 1 looks ⌝ }
     ensures { λ r. ⌜ OppositeAsked (probeOf scene (now (bytes .entry))) e looks r ⌝ }
 {
     let s = scene.signs;
@@ -75,7 +75,7 @@ fn ask_opposite(scene: Scene, bytes: &[u8], e: Vector, looks: u32) -> AxisAnswer
 
 // Whether the axis of the unit vector e is level, once minus e was asked.
 fn judge_axis(scene: Scene, bytes: &[u8], e: Vector, asked: Falls) -> AxisAnswer
-    requires { ⌜ Ready scene (now bytes) × Bounded 1 e × (fallsLooks asked ≤ 4000) ⌝ }
+    requires { ⌜ Ready scene (now bytes) × Bounded 1 e × Countable 1 (fallsLooks asked) ⌝ }
     ensures { λ r. ⌜ AxisJudged (probeOf scene (now (bytes .entry))) e asked r ⌝ }
 {
     match asked {
@@ -88,7 +88,7 @@ fn judge_axis(scene: Scene, bytes: &[u8], e: Vector, asked: Falls) -> AxisAnswer
 // Refusal 7, with the place as for axis 0, if all three are level.
 fn judge_levels(scene: Scene, level: Levels, looks: u32) -> Start
     requires { ⌜ Bounded 1000000000 (scene .apex) × Signs (scene .signs) ⌝ }
-    ensures { λ r. ⌜ LevelsJudgedIn scene level looks r ⌝ }
+    ensures { λ r. ⌜ LevelsJudged (scene .apex) (scene .signs) level looks r ⌝ }
 {
     if level.x & (level.y & level.z) {
         let seven = refuse_axis(scene, Vector { x: 1, y: 0, z: 0 }, looks);
@@ -100,7 +100,7 @@ fn judge_levels(scene: Scene, level: Levels, looks: u32) -> Start
 
 // Axis 0, 1, 2. A question and its judgement are two calls: in one, an axis is compiled as a function of its own that calls the question, and typical picks take 4 to 11% longer.
 fn ask_axes(scene: Scene, bytes: &[u8], looks: u32) -> Start
-    requires { ⌜ Ready scene (now bytes) × (looks ≤ 2) ⌝ }
+    requires { ⌜ Ready scene (now bytes) × Countable 6 looks ⌝ }
     ensures { λ r. ⌜ AxesAsked (probeOf scene (now (bytes .entry))) looks r ⌝ }
 {
     let e0 = Vector { x: 1, y: 0, z: 0 };
