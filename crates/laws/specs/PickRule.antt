@@ -14,7 +14,7 @@ use Rattle.rules.specs.declared.Triangle.{Triangle}
 use Rattle.rules.specs.Vectors.{size, origin}
 use Rattle.rules.specs.Solids.{between}
 use Rattle.rules.specs.Walk.{Stop, stop, asked, Probe, lookAt, facing, axes, start, rounds, levelled, normal, Found, found, end}
-use Rattle.rules.specs.Pick.{isInside, probe, judging, pick}
+use Rattle.rules.specs.Pick.{isInside, probe, placing, judging, pick}
 use Rattle.laws.specs.Says.{Says, says-answer, says-weaker, says-bind, says-asked, says-ensure, says-test}
 use Rattle.laws.specs.Looks.{As, look-says}
 use Rattle.laws.specs.Ranges.{not-outside}
@@ -63,7 +63,7 @@ module _ (ok : Bool) (look : Vector → Look) (p : Vector) (frame reach : ℤ) w
 
   module _ {Level : Levels → List Vector → Type 0} {Ended : Levels → Triangle × ℕ → List Vector → Type 0} {Finds : Found → List Vector → Type 0} {Stops : Stop → List Vector → Type 0} (rule : PickRule Level Ended Finds Stops) where
     judging-says : Says (λ _ t. Judged × (t ≡ [])) Stops (judging ok look p frame reach)
-    unfolding judging
+    unfolding judging placing
     judging-says =
         says-ensure _ _ _ (rule .one) (λ reached.
         says-ensure _ _ _ (rule .two) (λ framed.

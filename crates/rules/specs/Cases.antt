@@ -20,7 +20,7 @@ use Rattle.rules.specs.Vectors.{vector, _⊕_, _⊖_, minus, scale, dot,
 use Rattle.rules.specs.Solids.{between, rowBytes, sliceBytes, permittedWedge, filledWedge, inBox, look}
 use Rattle.rules.specs.Asked.{after, _>>=_}
 use Rattle.rules.specs.Walk.{ensure, sign, signs, seen, asked, powersFrom, powers, triangle, normal, allLevel, keep, only, remaining, takesPart, levelled, determinant, inside, anyInside, firstFree, choice, lookAt, fallsAt, facing, isLevel, axes, start, falling, round, walk, rounds, found, end}
-use Rattle.rules.specs.Pick.{isInside, judging, pick, answer, pickOf}
+use Rattle.rules.specs.Pick.{isInside, placing, judging, pick, answer, pickOf}
 use Rattle.rules.specs.P4.{Judged, good, wrong, _>>=_ as _onward_, judge, stands, isEnd, isWhite, commentAt, white, mix, digitsAt, fieldAt, headerAt, padding, cut, row, rows, imageAt, imagesAt, sizes, Contents, contents}
 use Rattle.rules.specs.Decimals.{isDigit, areDigits, value, figure, digits}
 use Rattle.rules.specs.Display.{largest, sizeOf, component, permittedNormal, light, display}
@@ -179,5 +179,5 @@ worked-cases :
     ∷ refuses 25 10
     ∷ holds 3 2 2 (160 ∷ 64 ∷ 32 ∷ 192 ∷ [])
     ∷ []
-unfolding run bytes cornersOf vectorsOf says ends holds refuses over _⊕_ _⊖_ minus scale dot cross det sphere lay size between permittedWedge filledWedge inBox look after _>>=_ ensure sign signs seen asked powersFrom powers normal allLevel keep only remaining takesPart levelled determinant inside anyInside firstFree choice lookAt fallsAt facing isLevel axes start falling round walk rounds found end isInside judging pick answer pickOf isDigit areDigits value figure digits parts fewDigits within32 signed number next onlyThese question three counts toldAccepted toldRefused told reply replies session largest sizeOf component permittedNormal light display rowBytes sliceBytes _onward_ judge stands isEnd isWhite commentAt white mix digitsAt fieldAt headerAt padding cut row rows imageAt imagesAt contents
+unfolding run bytes cornersOf vectorsOf says ends holds refuses over _⊕_ _⊖_ minus scale dot cross det sphere lay size between permittedWedge filledWedge inBox look after _>>=_ ensure sign signs seen asked powersFrom powers normal allLevel keep only remaining takesPart levelled determinant inside anyInside firstFree choice lookAt fallsAt facing isLevel axes start falling round walk rounds found end isInside placing judging pick answer pickOf isDigit areDigits value figure digits parts fewDigits within32 signed number next onlyThese question three counts toldAccepted toldRefused told reply replies session largest sizeOf component permittedNormal light display rowBytes sliceBytes _onward_ judge stands isEnd isWhite commentAt white mix digitsAt fieldAt headerAt padding cut row rows imageAt imagesAt contents
 worked-cases = refl

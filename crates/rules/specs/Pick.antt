@@ -29,6 +29,12 @@ isInside Outside = false
 abbrev pub probe : (Vector → Look) → Vector → ℤ → ℤ → Probe
 probe look p frame reach = let s = signs (natAbs frame) in record { look = look; apex = p ⊕ s; signs = s; powers = powers (natAbs reach) }
 
+-- refusal 4: p outside the box, else q outside it
+unfoldable pub placing : Probe → Vector → Asked Stop (Unit {0})
+placing c p = do
+  ensure (isInside (c .look p)) (stop 4 p 0)
+  ensure (isInside (c .look (c .apex))) (stop 4 (c .apex) 0)
+
 -- over any solid: whether it is permitted, and its look
 module _ (permitted : Bool) (look : Vector → Look) (p : Vector) (frame reach : ℤ) where
   abbrev c : Probe
@@ -40,8 +46,7 @@ module _ (permitted : Bool) (look : Vector → Look) (p : Vector) (frame reach :
     ensure (between (pos 1) reach (pos 256)) (stop 1 origin 0)
     ensure (between (pos 0) frame (pos 7)) (stop 2 origin 0)
     ensure permitted (stop 3 origin 0)
-    ensure (isInside (look p)) (stop 4 p 0)
-    ensure (isInside (look (c .apex))) (stop 4 (c .apex) 0)
+    placing c p
 
   -- then the start, the rounds and the end
   unfoldable pub pick : Asked Stop Found
