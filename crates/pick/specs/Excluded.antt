@@ -13,8 +13,8 @@ use Rattle.rules.specs.declared.Pick.the-variants.{Accepted, Refused}
 use Rattle.rules.specs.Vectors.{vector, _⊕_, _⊖_, minus, scale, dot, cross, det, sphere, lay, size, origin}
 use Rattle.rules.specs.Solids.{between, permittedWedge, filledWedge, inBox, look}
 use Rattle.rules.specs.Asked.{after, _>>=_}
-use Rattle.rules.specs.Walk.{ensure, sign, signs, seen, asked, powersFrom, powers, units, allLevel, keep, only, remaining, takesPart, levelled, normal, determinant, inside, anyInside, firstFree, choice, lookAt, falls, isLevel, axes, falling, round, walk, found, start, rounds}
-use Rattle.rules.specs.Pick.{isInside, pick, answer, pickOf, WedgePromise}
+use Rattle.rules.specs.Walk.{ensure, sign, signs, seen, asked, powersFrom, powers, units, allLevel, keep, only, remaining, takesPart, levelled, normal, determinant, inside, anyInside, firstFree, choice, lookAt, fallsAt, facing, isLevel, axes, start, falling, round, walk, rounds, found, end}
+use Rattle.rules.specs.Pick.{isInside, placing, judging, pick, answer, pickOf, WedgePromise}
 
 abbrev pub normalOf : Pick → Vector
 normalOf (Accepted a) = a .normal
@@ -56,7 +56,7 @@ evaluated :
     × (looksOf (pickOf (IsWedge turned) [] place (pos 0) (pos 8)) ≡ 95)
     × (looksOf (pickOf (IsWedge w4) [] place (pos 0) (pos 3)) ≡ 23)
     × (looksOf (pickOf (IsWedge opposing) [] place (pos 0) (pos 8)) ≡ 15)
-unfolding _⊕_ _⊖_ minus scale dot cross det sphere lay size between permittedWedge filledWedge inBox look after _>>=_ ensure sign signs seen asked powersFrom powers allLevel keep only remaining takesPart levelled normal determinant inside anyInside firstFree choice lookAt falls isLevel axes falling round walk found start rounds isInside pick answer pickOf
+unfolding _⊕_ _⊖_ minus scale dot cross det sphere lay size between permittedWedge filledWedge inBox look after _>>=_ ensure sign signs seen asked powersFrom powers allLevel keep only remaining takesPart levelled normal determinant inside anyInside firstFree choice lookAt fallsAt facing isLevel axes start falling round walk rounds found end isInside placing judging pick answer pickOf
 evaluated = (refl, refl, refl, refl, refl)
 
 -- the normal is not the sum of the cross products of the laid-in vectors: that one points inward

@@ -1,12 +1,12 @@
--- `pick::pick_solid` meets its contract: by the three tests before the box. What they found makes the casts fit.
+-- `pick::judge` meets its contract: by the three tests before the box. What they found makes the casts fit.
 use mathlib.Core.Path.{sym, _∙_}
 use native.Mathlib.Omega.{arith}
 use lib.Dec.{lit≤}
 use borrow.Author.Needs.{needs}
 use Rattle.pick.proofs.Ranges.{range, range-fits}
-use Rattle.pick.proofs.Answers.{picked-reach, picked-frame, picked-solid, picked-placed, picked-read}
-use Rattle.pick.proofs.pick_solid.Statement.{statement}
-use Rattle.pick.proofs.pick_solid.Tie as tie
+use Rattle.pick.proofs.Answers.{judged-reach, judged-frame, judged-solid, judged-placed, judged-read}
+use Rattle.pick.proofs.judge.Statement.{statement}
+use Rattle.pick.proofs.judge.Tie as tie
 
 place-requires : tie.Need-place-requires
 place-requires c κs =
@@ -18,14 +18,14 @@ returns-4 : tie.Need-returns-4
 returns-4 c =
     let reach = c .before in
     let start = reach .before .before .before in
-    picked-read (start .fits .frame) (start .fits .reach) (picked-reach (reach .before .is-between .ensures) (reach .if1 .left) (c .refusal3 .ensures))
+    judged-read (start .fits .frame) (start .fits .reach) (judged-reach (reach .before .is-between .ensures) (reach .if1 .left) (c .refusal3 .ensures))
 
 returns-3 : tie.Need-returns-3
 returns-3 c =
     let frame = c .before in
     let reach = frame .before .before in
     let start = reach .before .before .before in
-    picked-read (start .fits .frame) (start .fits .reach) (picked-frame (reach .before .is-between .ensures) (frame .before .is-between2 .ensures) (reach .if1 .taken) (frame .if2 .left) (c .refusal2 .ensures))
+    judged-read (start .fits .frame) (start .fits .reach) (judged-frame (reach .before .is-between .ensures) (frame .before .is-between2 .ensures) (reach .if1 .taken) (frame .if2 .left) (c .refusal2 .ensures))
 
 returns-2 : tie.Need-returns-2
 returns-2 c =
@@ -33,8 +33,8 @@ returns-2 c =
     let frame = solid .before .before in
     let reach = frame .before .before in
     let start = reach .before .before .before in
-    picked-read (start .fits .frame) (start .fits .reach)
-    (picked-solid (reach .before .is-between .ensures) (frame .before .is-between2 .ensures) (solid .before .is-permitted .ensures) (reach .if1 .taken) (frame .if2 .taken) (solid .if3 .left) (c .refusal .ensures))
+    judged-read (start .fits .frame) (start .fits .reach)
+    (judged-solid (reach .before .is-between .ensures) (frame .before .is-between2 .ensures) (solid .before .is-permitted .ensures) (reach .if1 .taken) (frame .if2 .taken) (solid .if3 .left) (c .refusal .ensures))
 
 returns : tie.Need-returns
 returns c =
@@ -42,11 +42,11 @@ returns c =
     let frame = solid .before .before in
     let reach = frame .before .before in
     let start = reach .before .before .before in
-    picked-read (start .fits .frame) (start .fits .reach)
-    (picked-placed (reach .before .is-between .ensures) (frame .before .is-between2 .ensures) (solid .before .is-permitted .ensures) (reach .if1 .taken) (frame .if2 .taken) (solid .if3 .taken) (c .place .ensures))
+    judged-read (start .fits .frame) (start .fits .reach)
+    (judged-placed (reach .before .is-between .ensures) (frame .before .is-between2 .ensures) (solid .before .is-permitted .ensures) (reach .if1 .taken) (frame .if2 .taken) (solid .if3 .taken) (c .place .ensures))
 
-pub pick-solid-spec : {M : Type 1} → statement M
-pick-solid-spec =
+pub judge-spec : {M : Type 1} → statement M
+judge-spec =
     tie.close
     (tie.spec
     (λ c κs. search needs)

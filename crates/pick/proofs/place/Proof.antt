@@ -15,16 +15,6 @@ add-requires c κs =
     let s = c .before .before .before .before in
     (bounded-wider (inside-bounded (s .pre .0) (record { is = sym (c .before .before .is-inside .ensures) ∙ c .before .if1 .taken })) (lit≤ tt), bounded-is (c .signs-of .ensures) (bounded-wider (signs-bounded (signs-are (s .args .frame))) (lit≤ tt)))
 
-begin-requires : tie.Need-begin-requires
-begin-requires c κs =
-    let s = c .before .before .before .before .before .before .before in
-    record {
-      permitted = s .pre .0;
-      placed = record { is = sym (c .before .is-inside2 .ensures) ∙ c .if2 .taken };
-      signed = rw (c .before .before .before .signs-of .ensures) (signs-are (s .args .frame));
-      reach-high = s .pre .1;
-    }
-
 pub place-spec : {M : Type 1} → statement M
 place-spec =
     tie.close
@@ -33,7 +23,6 @@ place-spec =
     (λ c κs. search needs)
     add-requires
     (λ c κs. search needs)
-    begin-requires
     (λ c κs. search needs)
     (λ c κs. search needs)
     (λ c. search answering)
