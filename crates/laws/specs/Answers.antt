@@ -22,7 +22,7 @@ use Rattle.rules.specs.Vectors.{_⊕_, scale, dot, lay}
 use Rattle.rules.specs.Asked.{Asked, answered, refused}
 use Rattle.rules.specs.Solids.{permitted, look}
 use Rattle.rules.specs.Walk.{Stop, stop, powers, Axis, axis0, axis1, axis2, unit, vectorOf, level, remaining, unlessLevel, levelled, normal, Probe, Found, laid, found}
-use Rattle.rules.specs.Pick.{pick, answer, pickOf}
+use Rattle.rules.specs.Pick.{pick, accepted, answer, pickOf}
 use Rattle.laws.specs.Parts.{NonNegative, part, part-of, parts-by, scale-one}
 use Rattle.laws.specs.Triples.{detOf, crosses, combined, expand}
 use Rattle.laws.specs.Levels.{above-zero, isZero, levelsOf, levels-of, levels-eq, part-levelled}
@@ -34,7 +34,7 @@ use Rattle.laws.specs.Answered.{voxelsOf}
 use Rattle.laws.specs.Frames.{Signs, lay-lay, lay-dot, lay-scale, lay-sum, lay-part-zero}
 use Rattle.laws.specs.Next.{LevelsAnswered}
 use Rattle.laws.specs.Axes.{levels-answered}
-use Rattle.laws.specs.Picks.{Accepting, Picked, RefusalHere, pick-says}
+use Rattle.laws.specs.Picks.{Accepting, PickFound, RefusalHere, pick-says}
 
 pub laid-of : (s : Vector) (m : Triangle) (k : Axis) → vectorOf (laid s m) k ≡ lay s (vectorOf m k)
 laid-of s m axis0 = refl
@@ -70,7 +70,7 @@ answer-says Q F (refused r t) h = (t, h .of, refl)
 pub accepted-answer : (x : Asked Stop Found) {a : AcceptedPick} → answer x ≡ Accepted a → x ≡ answered (foundOf a) (voxelsOf x)
 unfolding answer
 accepted-answer (answered f t) {a} e =
-    let is : record { normal = f .normal; triangle = f .triangle; apex = f .apex; steps = f .steps; looks = length t } ≡ a = cc in
+    let is : accepted f (length t) ≡ a = cc in
     ap (λ (a : AcceptedPick). answered (foundOf a) t) is
 accepted-answer (refused r t) e = absurd (let z : _≡_ {A = ℕ} 0 1 = cc in omega arith)
 
@@ -162,8 +162,8 @@ module _ {c : Probe} {R : ℕ} {f : Found} (h : Accepting c R f) where
 
 -- ---- and of a solid's pick
 module _ (solid : Solid) (bytes : List ℕ) (p : Vector) (frame reach : ℤ) where
-  abbrev PickedOn : Found → Type 0
-  PickedOn = Picked (permitted solid bytes) (look solid bytes) p frame reach
+  abbrev FoundOn : Found → Type 0
+  FoundOn = PickFound (permitted solid bytes) (look solid bytes) p frame reach
 
   abbrev RefusalOn : Stop → Type 0
   RefusalOn = RefusalHere (permitted solid bytes) (look solid bytes) p frame reach
@@ -171,11 +171,11 @@ module _ (solid : Solid) (bytes : List ℕ) (p : Vector) (frame reach : ℤ) whe
   abbrev K : ℕ
   K = length (powers (natAbs reach))
 
-  tells : (N : ℕ) → (natAbs reach ≤ 256 → 2 + K * (6 * max (natAbs reach) 3 - 9) ≤ N) → AnswerSays (Few N PickedOn) (Few N RefusalOn) (pickOf solid bytes p frame reach)
+  tells : (N : ℕ) → (natAbs reach ≤ 256 → 2 + K * (6 * max (natAbs reach) 3 - 9) ≤ N) → AnswerSays (Few N FoundOn) (Few N RefusalOn) (pickOf solid bytes p frame reach)
   unfolding pickOf
   tells N h = answer-says _ _ (pick (permitted solid bytes) (look solid bytes) p frame reach) (pick-says (permitted solid bytes) (look solid bytes) p frame reach N h)
 
-  pub accepted-tells : (a : AcceptedPick) → pickOf solid bytes p frame reach ≡ Accepted a → PickedOn (foundOf a)
+  pub accepted-tells : (a : AcceptedPick) → pickOf solid bytes p frame reach ≡ Accepted a → FoundOn (foundOf a)
   accepted-tells a e = subst (AnswerSays _ _) e (tells _ (λ _. NatL.le-refl _)) .1 .holds
 
   pub refused-tells : (r : RefusedPick) → pickOf solid bytes p frame reach ≡ Refused r → RefusalOn (stopOf r)
@@ -185,13 +185,13 @@ module _ (solid : Solid) (bytes : List ℕ) (p : Vector) (frame reach : ℤ) whe
   unfolding found
   few-steps = go _ (pickOf solid bytes p frame reach) (tells _ (λ _. NatL.le-refl _))
     where
-      go : (N : ℕ) (x : Pick) → AnswerSays (Few N PickedOn) (Few N RefusalOn) x → stepsOf x ≤ natAbs reach - 2
+      go : (N : ℕ) (x : Pick) → AnswerSays (Few N FoundOn) (Few N RefusalOn) x → stepsOf x ≤ natAbs reach - 2
       go N (Accepted a) h = let k = h .1 .holds .accepting in rw (ap (λ (f : Found). f .steps) (k .is)) (k .end .fewSteps .1 .most)
       go N (Refused r) h = h .1 .holds .fewSteps .most
 
   pub few-looks : (N : ℕ) → (natAbs reach ≤ 256 → 2 + length (powers (natAbs reach)) * (6 * max (natAbs reach) 3 - 9) ≤ N) → looksOf (pickOf solid bytes p frame reach) ≤ N
   few-looks N h = go (pickOf solid bytes p frame reach) (tells N h)
     where
-      go : (x : Pick) → AnswerSays (Few N PickedOn) (Few N RefusalOn) x → looksOf x ≤ N
+      go : (x : Pick) → AnswerSays (Few N FoundOn) (Few N RefusalOn) x → looksOf x ≤ N
       go (Accepted a) h = omega (arith, h .1 .few, h .2)
       go (Refused r) h = omega (arith, h .1 .few, h .2)

@@ -14,8 +14,8 @@ use Rattle.rules.specs.declared.Pair.the-variants.{P01, P02, P10, P12, P20, P21
 use Rattle.rules.specs.Vectors.{_⊕_, _⊖_, minus, lay}
 use Rattle.rules.specs.Asked.{Asked, answered, _>>=_, _>>_}
 use Rattle.rules.specs.Walk.{Stop, stop, ensure, asked, Axis, unit, units, pairs, from, to, vectorOf, first, second, way, level, only, takesPart, Probe, Found, laid, falls, isLevel, rounds, found}
-use Rattle.laws.specs.Tests.{is-true, both, In}
-use Rattle.laws.specs.Only.{each-in, each-taking}
+use Rattle.laws.specs.Tests.{is-true, both}
+use Rattle.laws.specs.Only.{taking-in}
 use Rattle.laws.specs.Parts.{difference-turned}
 use Rattle.laws.specs.Levels.{levels-eq, from-remains, to-remains}
 use Rattle.laws.specs.Tame.{turned, units-tame}
@@ -103,7 +103,7 @@ module _ (c : Probe) where
 
     side-stood : (x : Pair) → T (takesPart v x) → Stood c t (lay s (way m x))
     unfolding rounds
-    side-stood x takes = stood-among c _ (h .walk .among) (end-stood c ps _ 0 units (units-tame .unimodular) (h .walk .walked) x (each-taking (λ y. In y ps) v (each-in ps) x takes))
+    side-stood x takes = stood-among c _ (h .walk .among) (end-stood c ps _ 0 units (units-tame .unimodular) (h .walk .walked) x (taking-in v x takes))
 
     sides-way : (x : Pair) → way (f .triangle) x ≡ lay s (way m x)
     unfolding found

@@ -1,4 +1,4 @@
--- The rule of the whole pick, over any look: what is said of its parts, in their order, is said of it. p and q are judged before they are looked at,
+-- The rule of the whole pick, over any look: what is said of its parts, in their order, is said of it. p and q are passed before they are looked at,
 -- so refusal 8 is not given there. Everything is said of the voxels looked at so far, in order.
 use mathlib.Core.Path.{_≡_, refl}
 use mathlib.Core.Bool.{Bool, true, false, not}
@@ -30,7 +30,7 @@ module _ (ok : Bool) (look : Vector → Look) (p : Vector) (frame reach : ℤ) w
   R = natAbs reach
 
   -- none of the refusals 1 to 4
-  pub record Judged : Type 0 where
+  pub record Passed : Type 0 where
     pub permittedReach : T (between (pos 1) reach (pos 256))
     pub permittedFrame : T (between (pos 0) frame (pos 7))
     pub permittedSolid : T ok
@@ -39,7 +39,7 @@ module _ (ok : Bool) (look : Vector → Look) (p : Vector) (frame reach : ℤ) w
 
   -- nor 5 or 6
   pub record Faced : Type 0 where
-    pub judged : Judged
+    pub passed : Passed
     pub startFilled : look p ≡ Filled
     pub apexEmpty : look (probe look p frame reach .apex) ≡ Empty
 
@@ -50,19 +50,19 @@ module _ (ok : Bool) (look : Vector → Look) (p : Vector) (frame reach : ℤ) w
     pub three : T (not ok) → Stops (stop 3 origin 0) []
     pub fourStart : T (not (isInside (look p))) → Stops (stop 4 p 0) []
     pub fourApex : T (not (isInside (look (probe look p frame reach .apex)))) → Stops (stop 4 (probe look p frame reach .apex) 0) []
-    pub five : Judged → look p ≡ Empty → Stops (stop 5 p 0) (p ∷ [])
-    pub six : Judged → look p ≡ Filled → look (probe look p frame reach .apex) ≡ Filled → Stops (stop 6 (probe look p frame reach .apex) 0) (p ∷ probe look p frame reach .apex ∷ [])
+    pub five : Passed → look p ≡ Empty → Stops (stop 5 p 0) (p ∷ [])
+    pub six : Passed → look p ≡ Filled → look (probe look p frame reach .apex) ≡ Filled → Stops (stop 6 (probe look p frame reach .apex) 0) (p ∷ probe look p frame reach .apex ∷ [])
     pub axesSay : Faced → Says (λ v t. Level v (p ∷ probe look p frame reach .apex ∷ t)) (λ r t. Stops r (p ∷ probe look p frame reach .apex ∷ t)) (axes (probe look p frame reach))
     pub roundsSay : Faced → (v : Levels) (t : List Vector) → Level v t → Says (λ e s. Ended v e (t ++ s)) (λ r s. Stops r (t ++ s)) (rounds (probe look p frame reach) (natAbs reach) v)
     pub ten : Faced → (v : Levels) (e : Triangle × ℕ) (t : List Vector) → Ended v e t → T (not (leb (size (levelled v (normal (e .0)))) (natAbs reach))) → Stops (stop 10 (probe look p frame reach .apex) (e .1)) t
     pub ends : Faced → (v : Levels) (e : Triangle × ℕ) (t : List Vector) → Ended v e t → T (leb (size (levelled v (normal (e .0)))) (natAbs reach)) → Finds (found (probe look p frame reach) (natAbs reach) v e) t
 
-  -- a look at a voxel that was judged inside
+  -- a look at a voxel that was passed inside
   looked : {G : Stop → List Vector → Type 0} (a : Vector) → T (isInside (look a)) → Says (λ b t. (look a ≡ As b) × (t ≡ a ∷ [])) G (asked 0 (lookAt (c .look) a))
   looked a i = says-asked 0 _ (λ r t h. absurd (not-outside look a i (h .1))) (look-says c a)
 
   module _ {Level : Levels → List Vector → Type 0} {Ended : Levels → Triangle × ℕ → List Vector → Type 0} {Finds : Found → List Vector → Type 0} {Stops : Stop → List Vector → Type 0} (rule : PickRule Level Ended Finds Stops) where
-    judging-says : Says (λ _ t. Judged × (t ≡ [])) Stops (judging ok look p frame reach)
+    judging-says : Says (λ _ t. Passed × (t ≡ [])) Stops (judging ok look p frame reach)
     unfolding judging placing
     judging-says =
         says-ensure _ _ _ (rule .one) (λ reached.
@@ -71,13 +71,13 @@ module _ (ok : Bool) (look : Vector → Look) (p : Vector) (frame reach : ℤ) w
         says-ensure _ _ _ (rule .fourStart) (λ start.
         says-test _ _ (rule .fourApex) (λ apex. (record { permittedReach = reached; permittedFrame = framed; permittedSolid = permitted; startInside = start; apexInside = apex }, refl))))))
 
-    facing-says : Judged → Says (λ _ t. Faced × (t ≡ p ∷ q ∷ [])) Stops (facing c p)
+    facing-says : Passed → Says (λ _ t. Faced × (t ≡ p ∷ q ∷ [])) Stops (facing c p)
     unfolding facing
     facing-says h =
         says-bind {G = Stops} _ _ (looked {G = Stops} p (h .startInside)) (λ r t k. k) (λ f t a. rw (a .1)
         (says-ensure f _ _ (not-filled f (a .0)) (λ filled.
         says-bind {G = λ r s. Stops r (p ∷ s)} _ _ (looked {G = λ r s. Stops r (p ∷ s)} q (h .apexInside)) (λ r s k. k) (λ g s b. rw (b .1)
-        (says-test (not g) _ (filled-apex f g (a .0) filled (b .0)) (λ n. (record { judged = h; startFilled = is-filled f (a .0) filled; apexEmpty = is-empty g (b .0) n }, refl)))))))
+        (says-test (not g) _ (filled-apex f g (a .0) filled (b .0)) (λ n. (record { passed = h; startFilled = is-filled f (a .0) filled; apexEmpty = is-empty g (b .0) n }, refl)))))))
       where
         is-filled : (b : Bool) → look p ≡ As b → T b → look p ≡ Filled
         is-filled true e t = e
@@ -95,7 +95,7 @@ module _ (ok : Bool) (look : Vector → Look) (p : Vector) (frame reach : ℤ) w
         filled-apex f true e t d n = rule .six h (is-filled f e t) d
         filled-apex f false e t d n = absurd n
 
-    start-says : Judged → Says (λ v t. Faced × Level v t) Stops (start c p)
+    start-says : Passed → Says (λ v t. Faced × Level v t) Stops (start c p)
     unfolding start
     start-says h = says-bind {G = Stops} _ _ (facing-says h) (λ r t k. k) (λ _ t k. rw (k .1) (says-weaker _ (λ v s x. (k .0, x)) (λ r s x. x) (rule .axesSay (k .0))))
 

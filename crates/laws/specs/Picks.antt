@@ -32,7 +32,7 @@ use Rattle.laws.specs.Next.{Reached, sideways, NextLook, next-look}
 use Rattle.laws.specs.Axes.{AxesOf, levels-answered, AxisRule, axes-says}
 use Rattle.laws.specs.Powers.{looks-add-up, three-most}
 use Rattle.laws.specs.Walks.{WalkRule, walk-says}
-use Rattle.laws.specs.PickRule.{Judged, Faced, PickRule, pick-by-rule}
+use Rattle.laws.specs.PickRule.{Passed, Faced, PickRule, pick-by-rule}
 use Rattle.laws.specs.Boxes.{between-yes}
 
 -- ---- what a refusal tells
@@ -152,9 +152,9 @@ module _ (ok : Bool) (look : Vector → Look) (p : Vector) (frame reach : ℤ) w
   abbrev K : ℕ
   K = length (powers (natAbs reach))
 
-  -- what was judged before the walk, and the walk's end
-  pub record Picked (f : Found) : Type 0 where
-    pub judged : Judged ok look p frame reach
+  -- what was passed before the walk, and the walk's end
+  pub record PickFound (f : Found) : Type 0 where
+    pub passed : Passed ok look p frame reach
     pub accepting : Accepting (probe look p frame reach) (natAbs reach) f
 
   abbrev pub RefusalHere : Stop → Type 0
@@ -181,7 +181,7 @@ module _ (ok : Bool) (look : Vector → Look) (p : Vector) (frame reach : ℤ) w
         let most : 6 - r + length (only (takesPart v) pairs) * suc (R - r) ≤ 6 * M - 9 = rw (pairs-taking v) (three-most r R M (some-remain v (a .some)) (at-most-3 v) (omega arith) (omega arith)) in
         omega (arith, enough small, looks-add-up K r (length (only (takesPart v) pairs)) (R - r) n l (at-most-3 v) h k, NatL.mul-le-mul-left K most)
 
-    small : Judged ok look p frame reach → R ≤ 256
+    small : Passed ok look p frame reach → R ≤ 256
     small h = permitted-reach reach (h .permittedReach) .1
 
     -- at once, or after the looks at p and q
@@ -191,7 +191,7 @@ module _ (ok : Bool) (look : Vector → Look) (p : Vector) (frame reach : ℤ) w
     axis-rule : (k : Axis) → AxisRule c RefusalHere k
     axis-rule k = record { eight = λ p h. eight c R p 0 (none-taken c R) h; seven = λ _ _. refuse c R 7 _ (omega arith) }
 
-    every-pick : PickRule ok look p frame reach Level Ended (Few N Picked) (Few N RefusalHere)
+    every-pick : PickRule ok look p frame reach Level Ended (Few N PickFound) (Few N RefusalHere)
     every-pick = record {
       one = λ _. at-once (omega arith) (omega arith);
       two = λ _. at-once (omega arith) (omega arith);
@@ -201,19 +201,19 @@ module _ (ok : Bool) (look : Vector → Look) (p : Vector) (frame reach : ℤ) w
       five = λ h _. at-once (omega arith) (omega (arith, start-few (small h)));
       six = λ h _ _. at-once (omega arith) (omega (arith, start-few (small h)));
       axesSay = λ h.
-          says-weaker _ (λ v t k. (k .0, omega (arith, k .1))) (λ r t k. fewer (λ l. omega (arith, l, start-few (small (h .judged)))) k)
+          says-weaker _ (λ v t k. (k .0, omega (arith, k .1))) (λ r t k. fewer (λ l. omega (arith, l, start-few (small (h .passed)))) k)
           (axes-says c axis-rule (λ _. refuse c R 7 _ (omega arith)));
       roundsSay = λ h v t k.
           says-weaker _ (λ e s j. (k .0, fewer (λ l. rounds-few h v t s k l) j)) (λ r s j. fewer (λ l. rounds-few h v t s k l) j) (rounds-say c R v (k .0));
       ten = λ h v e t k n. record { holds = other-than-8 c R 10 _ (e .1) (omega arith) (k .1 .holds .fewSteps .1); few = k .1 .few };
       ends = λ h v e t k n. record {
-        holds = record { judged = h .judged; accepting = record { level = v; asked = k .0; at = e; is = refl; end = k .1 .holds; fits = leb→le (size (levelled v (normal (e .0)))) R n } };
+        holds = record { passed = h .passed; accepting = record { level = v; asked = k .0; at = e; is = refl; end = k .1 .holds; fits = leb→le (size (levelled v (normal (e .0)))) R n } };
         few = k .1 .few;
       };
     }
       where
         rounds-few : Faced ok look p frame reach → (v : Levels) (t s : List Vector) → Level v t → length s ≤ suc (R - length (remaining v)) * (length (only (takesPart v) pairs) * K) → length (t ++ s) ≤ N
-        rounds-few h v t s k l = rw (length-append t s) (all-few (small (h .judged)) v (k .0) (length t) (length s) (k .1) l)
+        rounds-few h v t s k l = rw (length-append t s) (all-few (small (h .passed)) v (k .0) (length t) (length s) (k .1) l)
 
-    pub pick-says : Says (Few N Picked) (Few N RefusalHere) (pick ok look p frame reach)
+    pub pick-says : Says (Few N PickFound) (Few N RefusalHere) (pick ok look p frame reach)
     pick-says = pick-by-rule ok look p frame reach every-pick

@@ -20,13 +20,14 @@ use Rattle.rules.specs.declared.Solid.the-variants.{Stack as IsStack}
 use Rattle.rules.specs.declared.Accepted.{Accepted as AcceptedPick}
 use Rattle.rules.specs.declared.Pick.the-variants.{Accepted}
 use Rattle.rules.specs.declared.Triangle.{Triangle}
+use Rattle.rules.specs.declared.Pair.{Pair}
 use Rattle.rules.specs.declared.Pair.the-variants.{P01, P10}
 use Rattle.rules.specs.Vectors.{_⊖_, minus, lay, dot, cross, det}
-use Rattle.rules.specs.Walk.{Axis, axis0, axis1, axis2, unit, way, level, takesPart, Probe}
+use Rattle.rules.specs.Walk.{Axis, axis0, axis1, axis2, unit, pairs, way, level, only, takesPart, Probe}
 use Rattle.rules.specs.Solids.{permittedStack, look}
 use Rattle.rules.specs.Pick.{isInside, pickOf}
 use Rattle.laws.specs.Tests.{both}
-use Rattle.laws.specs.Only.{each-taking}
+use Rattle.laws.specs.Only.{each-member, taking-in}
 use Rattle.laws.specs.Parts.{part, part-of, part-sum, part-scale, part-minus, part-lay, difference-turned}
 use Rattle.laws.specs.Triples.{detOf, of9}
 use Rattle.laws.specs.Frames.{IsSign, Signs, signs-are, sign-size}
@@ -35,7 +36,7 @@ use Rattle.laws.specs.Powers.{Reaches, powers-128}
 use Rattle.laws.specs.Ranges.{Between, InCube}
 use Rattle.laws.specs.Boxes.{stack-cube}
 use Rattle.laws.specs.Axes.{FellAlong, AxesOf}
-use Rattle.laws.specs.Picks.{End, Picked, permitted-reach}
+use Rattle.laws.specs.Picks.{End, PickFound, permitted-reach}
 use Rattle.laws.specs.Answers.{foundOf, accepted-tells}
 
 -- two ways that did not fall were looked at, at one power of at least M, inside the box
@@ -112,7 +113,7 @@ module _ (c : Probe) (box : (p : Vector) → T (isInside (c .look p)) → InCube
   unfolding takesPart
   too-far R v e a h =
       let m = e .0 in
-      let stood = each-taking (λ x. Fell c (way m x) false) v (h .stood) in
+      let stood : (x : Pair) → T (takesPart v x) → Fell c (way m x) false = λ x t. each-member (λ x. Fell c (way m x) false) x (only (takesPart v) pairs) (h .stood) (taking-in v x t) in
       let x = no-level axis0 (level v axis0) (a .axis axis0 .fell) in
       let y = no-level axis1 (level v axis1) (a .axis axis1 .fell) in
       let f = stood P01 (both (not (v .x)) (not (v .y)) x y) in
@@ -122,15 +123,15 @@ module _ (c : Probe) (box : (p : Vector) → T (isInside (c .look p)) → InCube
 
 pub stack-reach : (stack : Stack) (bytes : List ℕ) (p : Vector) (frame reach : ℤ) (a : AcceptedPick) → pickOf (IsStack stack) bytes p frame reach ≡ Accepted a → reach ≤ℤ pos 64
 stack-reach stack bytes p frame reach a is =
-    let R = permitted-reach reach (h .judged .permittedReach) in
+    let R = permitted-reach reach (h .passed .permittedReach) in
     let small = go (leb (natAbs reach) 64) refl in
     omega (arith, parts, R .2)
   where
-    h : Picked (permittedStack stack bytes) (look (IsStack stack) bytes) p frame reach (foundOf a)
+    h : PickFound (permittedStack stack bytes) (look (IsStack stack) bytes) p frame reach (foundOf a)
     h = accepted-tells (IsStack stack) bytes p frame reach a is
 
     go : (b : Bool) → leb (natAbs reach) 64 ≡ b → natAbs reach ≤ 64
     go true k = leb→le (natAbs reach) 64 (rw k tt)
     go false k =
         let o = h .accepting in
-        absurd (too-far _ (stack-cube stack bytes (h .judged .permittedSolid)) (signs-are (natAbs frame)) (powers-128 (natAbs reach) (nleb→lt (natAbs reach) 64 (rw k tt))) _ (o .level) (o .at) (o .asked) (o .end))
+        absurd (too-far _ (stack-cube stack bytes (h .passed .permittedSolid)) (signs-are (natAbs frame)) (powers-128 (natAbs reach) (nleb→lt (natAbs reach) 64 (rw k tt))) _ (o .level) (o .at) (o .asked) (o .end))

@@ -22,7 +22,7 @@ use Rattle.rules.specs.Vectors.{_⊕_, origin, lay, size}
 use Rattle.rules.specs.Solids.{between, permitted, box, inBox, look}
 use Rattle.rules.specs.Asked.{Asked, answered, refused}
 use Rattle.rules.specs.Walk.{Stop, stop, signs, levelled, normal, Probe, Found, laid, start, rounds, found, end}
-use Rattle.rules.specs.Pick.{isInside, probe, placing, judging, pick, answer, pickOf}
+use Rattle.rules.specs.Pick.{isInside, probe, placing, judging, pick, accepted, refusal, answer, pickOf}
 use Rattle.laws.specs.Frames.{Signs, signs-are}
 use Rattle.laws.specs.Boxes.{look-inside}
 use Rattle.laws.specs.Tally.{Tally, yes, no, tally, Gives, Countable, then-yes, then-no, ensured, not-ensured, at-once}
@@ -38,7 +38,7 @@ use Rattle.start.specs.declared.Start.{Start}
 use Rattle.start.specs.declared.Start.the-variants.{Begun, Refused as StartRefused}
 use Rattle.pick.specs.declared.Fit.{Fit}
 use Rattle.pick.specs.declared.Fit.the-variants.{Scene as FitScene, Refused as FitRefused}
-use Rattle.pick.specs.Pick.{pickTally, sceneOf, Ended, Placed, Judged, Picked}
+use Rattle.pick.specs.Pick.{pickTally, sceneOf, EndGives, PlacesJudged, InputsJudged, Picked}
 
 -- ---- the end
 module _ (c : Probe) (R : ℕ) (v : Levels) (m : Triangle) (steps looks : ℕ) where
@@ -116,8 +116,8 @@ module _ (allowed : Bool) (look : Vector → Look) (p : Vector) (frame reach : �
 
 -- ---- the answer is the definition's
 answerOf : Tally Stop Found → Pick
-answerOf (yes f n) = Accepted record { normal = f .normal; triangle = f .triangle; apex = f .apex; steps = f .steps; looks = n }
-answerOf (no e n) = IsRefused record { number = e .number; place = e .place; steps = e .steps; looks = n }
+answerOf (yes f n) = Accepted (accepted f n)
+answerOf (no e n) = IsRefused (refusal e n)
 
 tally-of : (r : Pick) → r ≡ answerOf (pickTally r)
 unfolding answerOf
@@ -135,11 +135,11 @@ is-answer x {r} h = tally-of r ∙ ap answerOf (h .is) ∙ tally-answer x
 -- ---- from what the callees promised to what the caller promises
 module _ {v : Scene} {level : Levels} {m : Triangle} {steps looks : ℕ} {whole n : Vector} {k : ℕ} (w : whole ≡ normal m) (a : n ≡ levelled level whole) (b : k ≡ size n) where
   pub ended-accepted : {u : Vector} {t : Triangle} → k ≤ v .reach → u ≡ lay (v .signs) n → t ≡ laid (v .signs) m
-      → Ended v level m steps looks (Accepted record { normal = u; triangle = t; apex = v .apex; steps = steps; looks = looks })
+      → EndGives v level m steps looks (Accepted record { normal = u; triangle = t; apex = v .apex; steps = steps; looks = looks })
   unfolding found
   ended-accepted h e f = record { gives = λ bytes. rw (e, f, a, w) (end-accepted (probeOf v bytes) (v .reach) level m steps looks (le-leb _ _ (rw (b, a, w) at h))) }
 
-  pub ended-refused : {r : Refused} → v .reach < k → r ≡ refusalOf 10 (v .apex) steps looks → Ended v level m steps looks (IsRefused r)
+  pub ended-refused : {r : Refused} → v .reach < k → r ≡ refusalOf 10 (v .apex) steps looks → EndGives v level m steps looks (IsRefused r)
   ended-refused h e = record { gives = λ bytes. rw e (end-refused (probeOf v bytes) (v .reach) level m steps looks (lt-leb _ _ (rw (b, a, w) at h))) }
 
 -- the apex, as it was computed and judged
@@ -150,16 +150,16 @@ inside-is : (solid : Solid) (bytes : List ℕ) {a q : Vector} {b t : Bool} → q
 inside-is solid bytes {q = q} e h g = rw (← e) (look-inside solid bytes q ∙ sym h ∙ g)
 
 module _ {solid : Solid} {bytes : List ℕ} (ok : Permitted solid bytes) {p : Vector} {frame R : ℕ} {a : Bool} (ha : a ≡ inBox (box solid) p) where
-  pub placed-outside : {r : Refused} → a ≡ false → r ≡ refusalOf 4 p 0 0 → Placed solid bytes p frame R (FitRefused r)
+  pub placed-outside : {r : Refused} → a ≡ false → r ≡ refusalOf 4 p 0 0 → PlacesJudged solid bytes p frame R (FitRefused r)
   placed-outside e f = record { gives = rw f (start-outside-box (probeOf (sceneOf solid p frame R) bytes) p (inside-is solid bytes refl ha e)); fits = tt }
 
   module _ {s q : Vector} {b : Bool} (hs : s ≡ signs frame) (hq : q ≡ p ⊕ s) (hb : b ≡ inBox (box solid) q) (e : a ≡ true) where
-    pub placed-apex-outside : {r : Refused} → b ≡ false → r ≡ refusalOf 4 q 0 0 → Placed solid bytes p frame R (FitRefused r)
+    pub placed-apex-outside : {r : Refused} → b ≡ false → r ≡ refusalOf 4 q 0 0 → PlacesJudged solid bytes p frame R (FitRefused r)
     placed-apex-outside g f =
         let i = apex-is p frame hs hq in
         record { gives = rw (f, i) (apex-outside-box (probeOf (sceneOf solid p frame R) bytes) p (inside-is solid bytes refl ha e) (inside-is solid bytes i hb g)); fits = tt }
 
-    pub placed-inside : b ≡ true → R ≤ 256 → Placed solid bytes p frame R (FitScene record { solid = solid; apex = q; signs = s; reach = R })
+    pub placed-inside : b ≡ true → R ≤ 256 → PlacesJudged solid bytes p frame R (FitScene record { solid = solid; apex = q; signs = s; reach = R })
     placed-inside g h =
         let i = apex-is p frame hs hq in
         record {
@@ -174,25 +174,25 @@ pub ruleset answering = (ended-accepted, ended-refused, placed-outside, placed-a
 
 -- ---- the inputs, as the numbers were read
 module _ {solid : Solid} {bytes : List ℕ} {p : Vector} {frame reach : ℤ} {a : Bool} (ha : a ≡ between (pos 1) reach (pos 256)) where
-  pub judged-reach : {r : Refused} → a ≡ false → r ≡ refusalOf 1 origin 0 0 → Judged solid bytes p frame reach (FitRefused r)
+  pub judged-reach : {r : Refused} → a ≡ false → r ≡ refusalOf 1 origin 0 0 → InputsJudged solid bytes p frame reach (FitRefused r)
   judged-reach e f = record { gives = rw f (reach-refused (permitted solid bytes) (look solid bytes) p frame reach (sym ha ∙ e)); fits = tt }
 
   module _ {b : Bool} (hb : b ≡ between (pos 0) frame (pos 7)) where
-    pub judged-frame : {r : Refused} → a ≡ true → b ≡ false → r ≡ refusalOf 2 origin 0 0 → Judged solid bytes p frame reach (FitRefused r)
+    pub judged-frame : {r : Refused} → a ≡ true → b ≡ false → r ≡ refusalOf 2 origin 0 0 → InputsJudged solid bytes p frame reach (FitRefused r)
     judged-frame e g f = record { gives = rw f (frame-refused (permitted solid bytes) (look solid bytes) p frame reach (sym ha ∙ e) (sym hb ∙ g)); fits = tt }
 
     module _ {d : Bool} (hd : d ≡ permitted solid bytes) where
-      pub judged-solid : {r : Refused} → a ≡ true → b ≡ true → d ≡ false → r ≡ refusalOf 3 origin 0 0 → Judged solid bytes p frame reach (FitRefused r)
+      pub judged-solid : {r : Refused} → a ≡ true → b ≡ true → d ≡ false → r ≡ refusalOf 3 origin 0 0 → InputsJudged solid bytes p frame reach (FitRefused r)
       judged-solid e g k f = record { gives = rw f (solid-refused (permitted solid bytes) (look solid bytes) p frame reach (sym ha ∙ e) (sym hb ∙ g) (sym hd ∙ k)); fits = tt }
 
-      pub judged-placed : {r : Fit} → a ≡ true → b ≡ true → d ≡ true → Placed solid bytes p (natAbs frame) (natAbs reach) r → Judged solid bytes p frame reach r
+      pub judged-placed : {r : Fit} → a ≡ true → b ≡ true → d ≡ true → PlacesJudged solid bytes p (natAbs frame) (natAbs reach) r → InputsJudged solid bytes p frame reach r
       judged-placed e g k h = record { gives = solid-permitted (permitted solid bytes) (look solid bytes) p frame reach (sym ha ∙ e) (sym hb ∙ g) (sym hd ∙ k) (h .gives); fits = h .fits }
 
-pub judged-read : {solid : Solid} {bytes : List ℕ} {p : Vector} {frame reach : ℤ} {r : Fit} → SFits w32 frame → SFits w32 reach → Judged solid bytes p (toZ w32 (ofZ w32 frame)) (toZ w32 (ofZ w32 reach)) r → Judged solid bytes p frame reach r
+pub judged-read : {solid : Solid} {bytes : List ℕ} {p : Vector} {frame reach : ℤ} {r : Fit} → SFits w32 frame → SFits w32 reach → InputsJudged solid bytes p (toZ w32 (ofZ w32 frame)) (toZ w32 (ofZ w32 reach)) r → InputsJudged solid bytes p frame reach r
 judged-read f g h = rw (toZ-ofZ f, toZ-ofZ g) at h
 
 -- ---- what each part of the pick may take for granted
-module _ {solid : Solid} {bytes : List ℕ} {p : Vector} {frame reach : ℤ} {fit : Fit} {v : Scene} (h : Judged solid bytes p frame reach fit) (e : fit ≡ FitScene v) where
+module _ {solid : Solid} {bytes : List ℕ} {p : Vector} {frame reach : ℤ} {fit : Fit} {v : Scene} (h : InputsJudged solid bytes p frame reach fit) (e : fit ≡ FitScene v) where
   pub scene-ready : Ready v bytes
   scene-ready = (rw e at (h .fits)) .1
 
@@ -208,8 +208,8 @@ end-sound h e = rw e at (h .sound)
 pub ruleset granted = (scene-ready, scene-signed, begun-countable, end-sound)
 
 -- ---- the whole pick, of the numbers as they were read
-module _ {solid : Solid} {bytes : List ℕ} {p : Vector} {frame reach : ℤ} {fit : Fit} (fits-frame : SFits w32 frame) (fits-reach : SFits w32 reach) (read : Judged solid bytes p (toZ w32 (ofZ w32 frame)) (toZ w32 (ofZ w32 reach)) fit) where
-  h : Judged solid bytes p frame reach fit
+module _ {solid : Solid} {bytes : List ℕ} {p : Vector} {frame reach : ℤ} {fit : Fit} (fits-frame : SFits w32 frame) (fits-reach : SFits w32 reach) (read : InputsJudged solid bytes p (toZ w32 (ofZ w32 frame)) (toZ w32 (ofZ w32 reach)) fit) where
+  h : InputsJudged solid bytes p frame reach fit
   h = judged-read fits-frame fits-reach read
 
   pub picked-inputs : {r : Refused} → fit ≡ FitRefused r → Picked solid bytes p frame reach (IsRefused r)
@@ -238,7 +238,7 @@ module _ {solid : Solid} {bytes : List ℕ} {p : Vector} {frame reach : ℤ} {fi
       unfolding pickOf
       picked-rounds j = record { is = is-answer _ (refused-rounds (permitted solid bytes) (look solid bytes) p frame reach judged (started i) (rounded j)) }
 
-      pub picked-end : {m : Triangle} {steps k : ℕ} {r : Pick} → walked ≡ WalkEnded m steps k → Ended v level m steps k r → Picked solid bytes p frame reach r
+      pub picked-end : {m : Triangle} {steps k : ℕ} {r : Pick} → walked ≡ WalkEnded m steps k → EndGives v level m steps k r → Picked solid bytes p frame reach r
       unfolding pickOf
       picked-end {m} {steps} {k} {r} j d =
           let ended = subst (λ (s : Scene). Gives k (end (probeOf s bytes) (s .reach) level (m, steps)) (pickTally r)) (fits .0) (d .gives bytes) in

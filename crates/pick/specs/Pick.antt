@@ -38,16 +38,16 @@ abbrev pub FitsTo : Solid → List ℕ → Vector → ℕ → ℕ → Fit → Ty
 FitsTo solid bytes p frame R (FitScene v) = (v ≡ sceneOf solid p frame R) × Ready v bytes
 FitsTo solid bytes p frame R (FitRefused r) = Unit {0}
 
-pub record Placed (solid : Solid) (bytes : List ℕ) (p : Vector) (frame R : ℕ) (r : Fit) : Type 0 where
+pub record PlacesJudged (solid : Solid) (bytes : List ℕ) (p : Vector) (frame R : ℕ) (r : Fit) : Type 0 where
   pub gives : Gives 0 (placing (probeOf (sceneOf solid p frame R) bytes) p) (fitTally r)
   pub fits : FitsTo solid bytes p frame R r
 
-pub record Judged (solid : Solid) (bytes : List ℕ) (p : Vector) (frame reach : ℤ) (r : Fit) : Type 0 where
+pub record InputsJudged (solid : Solid) (bytes : List ℕ) (p : Vector) (frame reach : ℤ) (r : Fit) : Type 0 where
   pub gives : Gives 0 (judging (permitted solid bytes) (look solid bytes) p frame reach) (fitTally r)
   pub fits : FitsTo solid bytes p (natAbs frame) (natAbs reach) r
 
 -- the end asks nothing, so the bytes play no part
-pub record Ended (v : Scene) (level : Levels) (m : Triangle) (steps looks : ℕ) (r : Pick) : Type 0 where
+pub record EndGives (v : Scene) (level : Levels) (m : Triangle) (steps looks : ℕ) (r : Pick) : Type 0 where
   pub gives : (bytes : List ℕ) → Gives looks (end (probeOf v bytes) (v .reach) level (m, steps)) (pickTally r)
 
 pub record Picked (solid : Solid) (bytes : List ℕ) (p : Vector) (frame reach : ℤ) (r : Pick) : Type 0 where

@@ -7,7 +7,7 @@ ghost use Rattle.laws.specs.Ranges.{Bounded};
 ghost use Rattle.solid.specs.Asks.{Permitted};
 ghost use Rattle.laws.specs.Frames.{Signs};
 ghost use Rattle.round.specs.Round.{Sound};
-ghost use Rattle.pick.specs.Pick.{Ended, Placed, Judged, Picked};
+ghost use Rattle.pick.specs.Pick.{EndGives, PlacesJudged, InputsJudged, Picked};
 use falls::Scene;
 use rules::Accepted;
 use rules::Levels;
@@ -93,7 +93,7 @@ fn level_out(level: Levels, n: Vector) -> Vector
 // No pair falls.
 fn end_walk(scene: Scene, level: Levels, m: Triangle, steps: u32, looks: u32) -> Pick
     requires { ⌜ Sound m × Signs (scene .signs) ⌝ }
-    ensures { λ r. ⌜ Ended scene level m steps looks r ⌝ }
+    ensures { λ r. ⌜ EndGives scene level m steps looks r ⌝ }
 {
     let s = scene.signs;
     let q = scene.apex;
@@ -119,9 +119,9 @@ fn end_walk(scene: Scene, level: Levels, m: Triangle, steps: u32, looks: u32) ->
 // ---- judging the inputs
 
 // p is judged before q is formed.
-fn place(solid: Solid, bytes: &[u8], p: Vector, frame: u32, reach: u32) -> Fit
+fn judge_places(solid: Solid, bytes: &[u8], p: Vector, frame: u32, reach: u32) -> Fit
     requires { ⌜ Permitted solid (now bytes) × (reach ≤ 256) ⌝ }
-    ensures { λ r. ⌜ Placed solid (now (bytes .entry)) p frame reach r ⌝ }
+    ensures { λ r. ⌜ PlacesJudged solid (now (bytes .entry)) p frame reach r ⌝ }
 {
     if solid::is_inside(solid, p) {
         let s = signs_of(frame);
@@ -142,13 +142,13 @@ fn place(solid: Solid, bytes: &[u8], p: Vector, frame: u32, reach: u32) -> Fit
 }
 
 fn judge(solid: Solid, bytes: &[u8], p: Vector, frame: i32, reach: i32) -> Fit
-    ensures { λ r. ⌜ Judged solid (now (bytes .entry)) p frame reach r ⌝ }
+    ensures { λ r. ⌜ InputsJudged solid (now (bytes .entry)) p frame reach r ⌝ }
 {
     let origin = Vector { x: 0, y: 0, z: 0 };
     if solid::is_between(1, reach, 256) {
         if solid::is_between(0, frame, 7) {
             if solid::is_permitted(solid, bytes) {
-                place(solid, bytes, p, frame as u32, reach as u32)
+                judge_places(solid, bytes, p, frame as u32, reach as u32)
             } else {
                 Fit::Refused(walk::refusal(3, origin, 0, 0))
             }

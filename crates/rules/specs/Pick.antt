@@ -13,6 +13,8 @@ use Rattle.rules.specs.declared.Solid.{Solid}
 use Rattle.rules.specs.declared.Solid.the-variants.{Wedge as IsWedge, Stack as IsStack}
 use Rattle.rules.specs.declared.Look.{Look}
 use Rattle.rules.specs.declared.Look.the-variants.{Filled, Empty, Outside}
+use Rattle.rules.specs.declared.Accepted.{Accepted as AcceptedPick}
+use Rattle.rules.specs.declared.Refused.{Refused as RefusedPick}
 use Rattle.rules.specs.declared.Pick.{Pick}
 use Rattle.rules.specs.declared.Pick.the-variants.{Accepted, Refused}
 use Rattle.rules.specs.Vectors.{_⊕_, origin}
@@ -57,9 +59,15 @@ module _ (permitted : Bool) (look : Vector → Look) (p : Vector) (frame reach :
     end c (natAbs reach) v e
 
 -- the answer's two cases: accepted with its record, or refused with number, place and counts
+abbrev pub accepted : Found → ℕ → AcceptedPick
+accepted f looks = record { normal = f .normal; triangle = f .triangle; apex = f .apex; steps = f .steps; looks = looks }
+
+abbrev pub refusal : Stop → ℕ → RefusedPick
+refusal r looks = record { number = r .number; place = r .place; steps = r .steps; looks = looks }
+
 unfoldable pub answer : Asked Stop Found → Pick
-answer (answered f t) = Accepted record { normal = f .normal; triangle = f .triangle; apex = f .apex; steps = f .steps; looks = length t }
-answer (refused r t) = Refused record { number = r .number; place = r .place; steps = r .steps; looks = length t }
+answer (answered f t) = Accepted (accepted f (length t))
+answer (refused r t) = Refused (refusal r (length t))
 
 -- a pick of a solid with its lent bytes
 unfoldable pub pickOf : Solid → List ℕ → Vector → ℤ → ℤ → Pick

@@ -8,8 +8,8 @@ use Rattle.pick.proofs.Answers.{judged-reach, judged-frame, judged-soli
 use Rattle.pick.proofs.judge.Statement.{statement}
 use Rattle.pick.proofs.judge.Tie as tie
 
-place-requires : tie.Need-place-requires
-place-requires c κs =
+judge-places-requires : tie.Need-judge-places-requires
+judge-places-requires c κs =
     let d = c .before .before .before .before in
     let reach = range _ _ _ (sym (d .before .is-between .ensures) ∙ d .if1 .taken) in
     (record { is = sym (c .before .is-permitted .ensures) ∙ c .if3 .taken }, omega (arith, reach .at-most))
@@ -43,7 +43,7 @@ returns c =
     let reach = frame .before .before in
     let start = reach .before .before .before in
     judged-read (start .fits .frame) (start .fits .reach)
-    (judged-placed (reach .before .is-between .ensures) (frame .before .is-between2 .ensures) (solid .before .is-permitted .ensures) (reach .if1 .taken) (frame .if2 .taken) (solid .if3 .taken) (c .place .ensures))
+    (judged-placed (reach .before .is-between .ensures) (frame .before .is-between2 .ensures) (solid .before .is-permitted .ensures) (reach .if1 .taken) (frame .if2 .taken) (solid .if3 .taken) (c .judge-places .ensures))
 
 pub judge-spec : {M : Type 1} → statement M
 judge-spec =
@@ -54,7 +54,7 @@ judge-spec =
     (λ c κs. search needs)
     (λ c. let d = c .before .before in range-fits (range _ _ _ (sym (d .before .is-between2 .ensures) ∙ d .if2 .taken)) (lit≤ tt))
     (λ c. let d = c .before .before .before .before in range-fits (range _ _ _ (sym (d .before .is-between .ensures) ∙ d .if1 .taken)) (lit≤ tt))
-    place-requires
+    judge-places-requires
     (λ c κs. search needs)
     (λ c κs. search needs)
     (λ c κs. search needs)
