@@ -49,7 +49,7 @@ module _ (c : Probe) where
     pub voxels : List Vector
     pub walked : rounds c R v ≡ answered end voxels
     pub among : Among voxels t
-    pub is : f ≡ found c R v end
+    pub is : f ≡ found c v end
 
   walk-among : {R : ℕ} {v : Levels} {f : Found} {t u : List Vector} → Among t u → WalkPart R v f t → WalkPart R v f u
   walk-among a h = record { end = h .end; voxels = h .voxels; walked = h .walked; among = among-more (h .among) a; is = h .is }

@@ -55,7 +55,7 @@ module _ (ok : Bool) (look : Vector → Look) (p : Vector) (frame reach : ℤ) w
     pub axesSay : Faced → Says (λ v t. Level v (p ∷ probe look p frame reach .apex ∷ t)) (λ r t. Stops r (p ∷ probe look p frame reach .apex ∷ t)) (axes (probe look p frame reach))
     pub roundsSay : Faced → (v : Levels) (t : List Vector) → Level v t → Says (λ e s. Ended v e (t ++ s)) (λ r s. Stops r (t ++ s)) (rounds (probe look p frame reach) (natAbs reach) v)
     pub ten : Faced → (v : Levels) (e : Triangle × ℕ) (t : List Vector) → Ended v e t → T (not (leb (size (levelled v (normal (e .0)))) (natAbs reach))) → Stops (stop 10 (probe look p frame reach .apex) (e .1)) t
-    pub ends : Faced → (v : Levels) (e : Triangle × ℕ) (t : List Vector) → Ended v e t → T (leb (size (levelled v (normal (e .0)))) (natAbs reach)) → Finds (found (probe look p frame reach) (natAbs reach) v e) t
+    pub ends : Faced → (v : Levels) (e : Triangle × ℕ) (t : List Vector) → Ended v e t → T (leb (size (levelled v (normal (e .0)))) (natAbs reach)) → Finds (found (probe look p frame reach) v e) t
 
   -- a look at a voxel that was passed inside
   looked : {G : Stop → List Vector → Type 0} (a : Vector) → T (isInside (look a)) → Says (λ b t. (look a ≡ As b) × (t ≡ a ∷ [])) G (asked 0 (lookAt (c .look) a))

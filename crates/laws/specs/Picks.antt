@@ -130,7 +130,7 @@ pub record Accepting (c : Probe) (R : ℕ) (f : Found) : Type 0 where
   pub level : Levels
   pub asked : AxesOf c level
   pub at : Triangle × ℕ
-  pub is : f ≡ found c R level at
+  pub is : f ≡ found c level at
   pub end : End c R level at
   pub fits : size (levelled level (normal (at .0))) ≤ R
 

@@ -42,7 +42,7 @@ use Rattle.pick.specs.Pick.{pickTally, sceneOf, EndGives, PlacesJudged, 
 
 -- ---- the end
 module _ (c : Probe) (R : ℕ) (v : Levels) (m : Triangle) (steps looks : ℕ) where
-  end-accepted : leb (size (levelled v (normal m))) R ≡ true → Gives looks (end c R v (m, steps)) (yes (found c R v (m, steps)) looks)
+  end-accepted : leb (size (levelled v (normal m))) R ≡ true → Gives looks (end c R v (m, steps)) (yes (found c v (m, steps)) looks)
   unfolding end
   end-accepted e = then-yes _ (ensured (stop 10 (c .apex) steps) e) at-once
 

@@ -220,6 +220,7 @@ pub record Found : Type 0 where
   pub apex : Vector
   pub steps : ℕ
 
+-- a triangle laid into the box, or back out of it
 abbrev pub laid : Vector → Triangle → Triangle
 laid s m = triangle (lay s (m .m0)) (lay s (m .m1)) (lay s (m .m2))
 
@@ -292,17 +293,17 @@ module _ (c : Probe) where
       chosen ← asked n (round m)
       elim chosen [ Nothing ↦ answered (m, n) [] | Chosen x ↦ walk left (suc n) (step m x) ]
 
+  unfoldable pub found : Levels → Triangle × ℕ → Found
+  found v e = record { normal = lay s (levelled v (normal (e .0))); triangle = laid s (e .0); apex = q; steps = e .1 }
+
   -- with the reach R and the level axes v
   module _ (R : ℕ) (v : Levels) where
     -- 3. begin with the unit vectors and zero steps; as many steps are allowed as the reach less the number of remaining axes, none if that is below zero
     unfoldable pub rounds : Asked Stop (Triangle × ℕ)
     rounds = walk (only (takesPart v) pairs) (R - length (remaining v)) 0 units
 
-    unfoldable pub found : Triangle × ℕ → Found
-    found e = record { normal = lay s (levelled v (normal (e .0))); triangle = laid s (e .0); apex = q; steps = e .1 }
-
     -- the end: refusal 10, or what was found
     unfoldable pub end : Triangle × ℕ → Asked Stop Found
     end e = do
       ensure (leb (size (levelled v (normal (e .0)))) R) (stop 10 q (e .1))
-      answered (found e) []
+      answered (found v e) []

@@ -236,10 +236,10 @@ module _ (n : Vector) (t : ℤ) (i : Inputs) (o : OnSlope n t i) where
   rounds-of : (a : Levels) (l : List Vector) → Level a l → Says (λ e k. Ended a e (l ++ k)) (λ e k. EdgeHere e) (rounds c R a)
   rounds-of a l h = rw (h .0) (says-weaker _ (λ e k j. (refl, record { holds = j .holds; few = rw (length-append l k) (all-few (length l) (length k) (h .2) (j .few)) })) (λ e k j. j) (rounds-say (h .1)))
 
-  same-found : {a : Levels} {e : Triangle × ℕ} → a ≡ v → e ≡ ideally → found c R a e ≡ found c R v ideally
-  same-found h k = λ j. found c R (h j) (k j)
+  same-found : {a : Levels} {e : Triangle × ℕ} → a ≡ v → e ≡ ideally → found c a e ≡ found c v ideally
+  same-found h k = λ j. found c (h j) (k j)
 
-  slope-pick : PickRule (permitted (i .solid) (i .bytes)) lookOf (i .start) (i .frame) (i .reach) Level Ended (Few fewest (λ f. f ≡ found c R v ideally)) (λ e l. EdgeHere e)
+  slope-pick : PickRule (permitted (i .solid) (i .bytes)) lookOf (i .start) (i .frame) (i .reach) Level Ended (Few fewest (λ f. f ≡ found c v ideally)) (λ e l. EdgeHere e)
   unfolding isInside
   slope-pick = record {
     one = λ z. absurd (T-not (between (pos 1) (i .reach) (pos 256)) z (o .permitted .permittedReach));
@@ -255,5 +255,5 @@ module _ (n : Vector) (t : ℤ) (i : Inputs) (o : OnSlope n t i) where
     ends = λ _ a e l h z. record { holds = same-found (h .0) (h .1 .holds); few = h .1 .few };
   }
 
-  pub pick-says : Says (Few fewest (λ f. f ≡ found c R v ideally)) (λ e l. EdgeHere e) (pick (permitted (i .solid) (i .bytes)) lookOf (i .start) (i .frame) (i .reach))
+  pub pick-says : Says (Few fewest (λ f. f ≡ found c v ideally)) (λ e l. EdgeHere e) (pick (permitted (i .solid) (i .bytes)) lookOf (i .start) (i .frame) (i .reach))
   pick-says = pick-by-rule _ _ _ _ _ slope-pick

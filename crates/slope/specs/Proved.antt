@@ -35,7 +35,7 @@ asked-few r w h k l = let e : w + 1 - r ≡ suc (w - r) = omega (arith, l) in rw
 
 module _ (n : Vector) (t : ℤ) (i : Inputs) (o : OnSlope n t i) where
   abbrev whole : Found
-  whole = found (probeOf i) (natAbs (i .reach)) (levelsOf n) (ideally n t i o)
+  whole = found (probeOf i) (levelsOf n) (ideally n t i o)
 
   abbrev Said : Pick → Type 0
   Said = AnswerSays (Few (fewest n t i o) (λ f. f ≡ whole)) (λ e l. Edge (probeOf i) e)
@@ -97,11 +97,11 @@ module _ (n : Vector) (t : ℤ) (i : Inputs) (o : OnSlope n t i) where
       go (Refused r) e h = record { isEight = h .1 .isEight; next = h .1 .next; outside = outside-box (i .solid) (i .bytes) (r .place) (h .1 .next .outside) }
 
 -- ---- two picks with the same signs: the ideal walk knows nothing else
-same-whole : (n : Vector) (c d : Probe) (R S : ℕ) → c .signs ≡ d .signs → (f g : AcceptedPick)
-    → foundOf f ≡ found c R (levelsOf n) (ideal (raised (levelsOf n) (lay (c .signs) n)) (levelsOf n) (size n - remainingOf n) 0 units)
-    → foundOf g ≡ found d S (levelsOf n) (ideal (raised (levelsOf n) (lay (d .signs) n)) (levelsOf n) (size n - remainingOf n) 0 units) → Same f g
+same-whole : (n : Vector) (c d : Probe) → c .signs ≡ d .signs → (f g : AcceptedPick)
+    → foundOf f ≡ found c (levelsOf n) (ideal (raised (levelsOf n) (lay (c .signs) n)) (levelsOf n) (size n - remainingOf n) 0 units)
+    → foundOf g ≡ found d (levelsOf n) (ideal (raised (levelsOf n) (lay (d .signs) n)) (levelsOf n) (size n - remainingOf n) 0 units) → Same f g
 unfolding found
-same-whole n c d R S e f g x y = record {
+same-whole n c d e f g x y = record {
   normals = ap (λ (f : Found). f .normal) x ∙ ap (λ s. lay s (levelled (levelsOf n) (normal (walked s .0)))) e ∙ sym (ap (λ (f : Found). f .normal) y);
   triangles = ap (λ (f : Found). f .triangle) x ∙ ap (λ s. laid s (walked s .0)) e ∙ sym (ap (λ (f : Found). f .triangle) y);
   steps = ap (λ (f : Found). f .steps) x ∙ ap (λ s. walked s .1) e ∙ sym (ap (λ (f : Found). f .steps) y);
@@ -111,7 +111,7 @@ same-whole n c d R S e f g x y = record {
     walked s = ideal (raised (levelsOf n) (lay s n)) (levelsOf n) (size n - remainingOf n) 0 units
 
 pub two-picks : (n : Vector) (t u : ℤ) (i j : Inputs) → OnSlope n t i → OnSlope n u j → signsOf i ≡ signsOf j → (a b : AcceptedPick) → pickAt i ≡ Accepted a → pickAt j ≡ Accepted b → Same a b
-two-picks n t u i j o p e a b x y = same-whole n _ _ _ _ e a b (is-whole n t i o a x) (is-whole n u j p b y)
+two-picks n t u i j o p e a b x y = same-whole n _ _ e a b (is-whole n t i o a x) (is-whole n u j p b y)
 
 pub demand-3 : Demand3
 demand-3 = record {
