@@ -1,10 +1,10 @@
 -- The three sizes' tests are those of the definition.
 use borrow.Author.Needs.{needs}
 use Rattle.integers.specs.Machine.{value}
-use Rattle.solid.specs.Asks.{sizesPermitted}
-use Rattle.solid.proofs.Judged.{judged}
-use Rattle.solid.proofs.has_sizes.Statement.{statement}
-use Rattle.solid.proofs.has_sizes.Tie as tie
+use Rattle.stack.specs.Sides.{sizesPermitted}
+use Rattle.range.specs.Judged.{judged}
+use Rattle.stack.proofs.has_sizes.Statement.{statement}
+use Rattle.stack.proofs.has_sizes.Tie as tie
 
 returns : tie.Need-returns
 unfolding sizesPermitted
