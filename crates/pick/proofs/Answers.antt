@@ -20,7 +20,7 @@ use Rattle.rules.specs.declared.Pick.the-variants.{Accepted, Refused as IsRefus
 use Rattle.rules.specs.declared.Refused.{Refused}
 use Rattle.rules.specs.Vectors.{_⊕_, origin, lay, size}
 use Rattle.rules.specs.Solids.{between, permitted, box, inBox, look}
-use Rattle.solid.specs.Asks.{Permitted}
+use Rattle.solid.specs.Asks.{PermittedSolid}
 use Rattle.laws.specs.Boxes.{look-inside}
 use Rattle.rules.specs.Asked.{Asked, answered, refused}
 use Rattle.rules.specs.Walk.{Stop, stop, signs, powers, pairs, levelled, normal, units, walk, Found, found, start, rounds}
@@ -141,7 +141,7 @@ module _ {look : Vector → Look} {s p q : Vector} {R : ℕ} {b : Start} (h : St
   pub begun-no : {r : Refused} → b ≡ StartRefused r → Begun look s p q R (IsRefused r)
   begun-no e = record { gives = begun-refused look s p q R (rw e at (h .gives)) }
 
-module _ {solid : Solid} {bytes : List ℕ} (ok : Permitted solid bytes) {p : Vector} {frame R : ℕ} {a : Bool} (ha : a ≡ inBox (box solid) p) where
+module _ {solid : Solid} {bytes : List ℕ} (ok : PermittedSolid solid bytes) {p : Vector} {frame R : ℕ} {a : Bool} (ha : a ≡ inBox (box solid) p) where
   pub placed-outside : {r : Refused} → a ≡ false → r ≡ refusalOf 4 p 0 0 → Placed solid bytes p frame R (IsRefused r)
   placed-outside e f = record { gives = rw f (start-outside-box (look solid bytes) (signs frame) p (p ⊕ signs frame) R (look-inside solid bytes p ∙ sym ha ∙ e)) }
 

@@ -4,7 +4,7 @@ ghost use Prim.Native.Nat.{_≤_};
 ghost use Rattle.rules.specs.Walk.{sign, signs, unlessLevel, levelled, normal};
 ghost use Rattle.rules.specs.Pick.{WedgePromise, StackPromise};
 ghost use Rattle.laws.specs.Ranges.{Bounded};
-ghost use Rattle.solid.specs.Asks.{Permitted};
+ghost use Rattle.solid.specs.Asks.{PermittedSolid};
 ghost use Rattle.laws.specs.Frames.{Signs};
 ghost use Rattle.falls.specs.Scene.{Ready};
 ghost use Rattle.round.specs.Round.{Sound};
@@ -137,7 +137,7 @@ fn begin(scene: Scene, bytes: &[u8], p: Vector) -> Pick
 
 // p is judged before q is formed.
 fn place(solid: Solid, bytes: &[u8], p: Vector, frame: u32, reach: u32) -> Pick
-    requires { ⌜ Permitted solid (now bytes) × (reach ≤ 256) ⌝ }
+    requires { ⌜ PermittedSolid solid (now bytes) × (reach ≤ 256) ⌝ }
     ensures { λ r. ⌜ Placed solid (now (bytes .entry)) p frame reach r ⌝ }
 {
     if solid::is_inside(solid, p) {
@@ -163,8 +163,8 @@ fn pick_solid(solid: Solid, bytes: &[u8], p: Vector, frame: i32, reach: i32) -> 
     ensures { λ r. ⌜ Picked solid (now (bytes .entry)) p frame reach r ⌝ }
 {
     let origin = Vector { x: 0, y: 0, z: 0 };
-    if solid::is_between(1, reach, 256) {
-        if solid::is_between(0, frame, 7) {
+    if range::is_between(1, reach, 256) {
+        if range::is_between(0, frame, 7) {
             if solid::is_permitted(solid, bytes) {
                 place(solid, bytes, p, frame as u32, reach as u32)
             } else {
