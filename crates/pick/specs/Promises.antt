@@ -1,7 +1,7 @@
 -- The two promises settle the answer: two answers that one allows are equal. A stack's answer depends on the voxels of its box alone:
 -- no bit that pads a row is looked at, and no byte behind those needed.
-use mathlib.Core.Path.{_≡_, refl, sym, _∙_}
-use mathlib.Core.Bool.{Bool, true, false}
+use mathlib.Core.Path.{_≡_, sym, _∙_}
+use mathlib.Core.Bool.{true}
 use mathlib.Core.List.{List, _++_}
 use Prim.Native.Nat.{ℕ}
 use native.Mathlib.Omega.{arith}
@@ -12,10 +12,10 @@ use Rattle.rules.specs.declared.Wedge.{Wedge}
 use Rattle.rules.specs.declared.Stack.{Stack}
 use Rattle.rules.specs.declared.Solid.the-variants.{Stack as IsStack}
 use Rattle.rules.specs.declared.Pick.{Pick}
-use Rattle.rules.specs.Solids.{permittedStack, voxel, filledStack, box, inBox, seenAs, look}
+use Rattle.rules.specs.Solids.{permittedStack, voxel, filledStack, box, inBox}
 use Rattle.rules.specs.Pick.{pick, answer, pickOf, WedgePromise, StackPromise}
 use Rattle.stack.specs.Sides.{sized, permitted-too}
-use Rattle.stack.specs.Voxels.{point-held, voxel-held}
+use Rattle.stack.specs.Voxels.{point-held, voxel-held, looks-alike}
 use Rattle.solid.specs.Asks.{PermittedSolid}
 
 pub wedge-settled : {w : Wedge} {p : Vector} {frame reach : ℤ} {r t : Pick} → WedgePromise w p frame reach r → WedgePromise w p frame reach t → r ≡ t
@@ -29,18 +29,10 @@ pub record Alike (k : Stack) (a b : List ℕ) : Type 0 where
   pub permitted : permittedStack k a ≡ permittedStack k b
   pub voxels : (v : Vector) → inBox (box (IsStack k)) v ≡ true → filledStack k a v ≡ filledStack k b v
 
-seen-alike : (inside f g : Bool) → (inside ≡ true → f ≡ g) → seenAs inside f ≡ seenAs inside g
-seen-alike false f g h = refl
-seen-alike true f g h = λ i. seenAs true (h refl i)
-
 module _ {k : Stack} {a b : List ℕ} (h : Alike k a b) where
-  looks-alike : (v : Vector) → look (IsStack k) a v ≡ look (IsStack k) b v
-  unfolding look
-  looks-alike v = seen-alike (inBox (box (IsStack k)) v) (filledStack k a v) (filledStack k b v) (h .voxels v)
-
   picks-alike : (p : Vector) (frame reach : ℤ) → pickOf (IsStack k) a p frame reach ≡ pickOf (IsStack k) b p frame reach
   unfolding pickOf
-  picks-alike p frame reach = λ i. answer (pick (h .permitted i) (λ v. looks-alike v i) p frame reach)
+  picks-alike p frame reach = λ i. answer (pick (h .permitted i) (λ v. looks-alike k a b (h .voxels) v i) p frame reach)
 
   pub stack-answers-alike : {p : Vector} {frame reach : ℤ} {r t : Pick} → StackPromise k a p frame reach r → StackPromise k b p frame reach t → r ≡ t
   stack-answers-alike {p} {frame} {reach} u v = u .is ∙ picks-alike p frame reach ∙ sym (v .is)

@@ -1,6 +1,6 @@
 -- The place of a voxel's byte is a number in mixed radix, slice, row and byte, so it is one of the bytes that the stack takes.
-use mathlib.Core.Path.{_≡_}
-use mathlib.Core.Bool.{true}
+use mathlib.Core.Path.{_≡_, refl}
+use mathlib.Core.Bool.{Bool, true, false}
 use mathlib.Core.List.{List}
 use Prim.Native.Nat.{ℕ, suc, _+_, _*_, _/_, _≤_, _<_}
 use native.Mathlib.Nat.{suc-mul, mul-assoc, mul-le-mul-right, lt-of-lt-of-le}
@@ -13,7 +13,7 @@ use Rattle.integers.specs.Sizes.{Within}
 use Rattle.rules.specs.declared.Vector.{Vector}
 use Rattle.rules.specs.declared.Stack.{Stack}
 use Rattle.rules.specs.declared.Solid.the-variants.{Stack as IsStack}
-use Rattle.rules.specs.Solids.{rowBytes, sliceBytes, stackBytes, permittedStack, voxelPlace, box, inBox}
+use Rattle.rules.specs.Solids.{rowBytes, sliceBytes, stackBytes, permittedStack, voxelPlace, filledStack, box, inBox, seenAs, look}
 use Rattle.range.specs.Ranges.{InSide, in-sides}
 use Rattle.stack.specs.Sides.{Side, SideOf, Sized, sized}
 
@@ -62,3 +62,13 @@ pub voxel-held : {k : Stack} {bytes : List ℕ} {p : Vector} → PointHeld k byt
     → voxelPlace (natAbs (k .width)) (natAbs (k .height)) (natAbs (p .x)) (natAbs (p .y)) (natAbs (p .z)) < length bytes
 unfolding stackBytes
 voxel-held h = lt-of-lt-of-le (place-in (h .along-x .below) (h .along-y .below) (h .along-z .below)) (h .sized .enough)
+
+-- ---- lent bytes that agree on the voxels of the box have the same looks
+module _ (k : Stack) (a b : List ℕ) (voxels : (v : Vector) → inBox (box (IsStack k)) v ≡ true → filledStack k a v ≡ filledStack k b v) where
+  seen-alike : (inside f g : Bool) → (inside ≡ true → f ≡ g) → seenAs inside f ≡ seenAs inside g
+  seen-alike false f g h = refl
+  seen-alike true f g h = λ i. seenAs true (h refl i)
+
+  pub looks-alike : (v : Vector) → look (IsStack k) a v ≡ look (IsStack k) b v
+  unfolding look
+  looks-alike v = seen-alike (inBox (box (IsStack k)) v) (filledStack k a v) (filledStack k b v) (voxels v)
