@@ -43,10 +43,11 @@ figure-value v n i t =
     let e : v * 10 + (figure n - 48) ≡ v * 10 + n % 10 = omega arith in
     digit-more (figure n) t i v (figure-digit n) ∙ ap (λ (x : ℕ). digitsAt x t (i + 1)) e
 
-pub record Scanned (n : ℕ) : Type 0 where
-  pub value : (t : List ℕ) (i : ℕ) → digitsAt 0 (decimal n ++ t) i ≡ digitsAt n t (i + length (decimal n))
-  pub starts : (t : List ℕ) (i : ℕ) → mix false (decimal n ++ t) i ≡ i
-  pub some : 1 ≤ length (decimal n)
+-- what the scans give of a number's digits
+record Scanned (n : ℕ) : Type 0 where
+  value : (t : List ℕ) (i : ℕ) → digitsAt 0 (decimal n ++ t) i ≡ digitsAt n t (i + length (decimal n))
+  starts : (t : List ℕ) (i : ℕ) → mix false (decimal n ++ t) i ≡ i
+  some : 1 ≤ length (decimal n)
 
 one : (n : ℕ) → n < 10 → Scanned n
 unfolding figure
