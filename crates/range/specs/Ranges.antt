@@ -1,12 +1,13 @@
 -- What a number in a range and a point in a box tell: the tests as inequalities.
 use mathlib.Core.Path.{_≡_, refl}
-use Prim.Native.Nat.{ℕ, _≤_}
+use Prim.Native.Nat.{ℕ, suc, _≤_}
 use native.Mathlib.Omega.{arith}
 use lib.Dec.{T}
 use lib.IntN.{ℤ, pos, negsuc, natAbs}
 use lib.Signed.{_≤ℤ_, _<ℤ_, leZ, ltZ, leZ-yes, ltZ-yes}
 use mir.Facts.{and-yes}
 use Rattle.integers.specs.Order.{parts}
+use Rattle.integers.specs.Sizes.{Within, sizes}
 use Rattle.rules.specs.declared.Vector.{Vector}
 use Rattle.rules.specs.Solids.{between, inSide, inBox}
 
@@ -21,6 +22,10 @@ between-naturals low high x t = go x (between-yes (pos low) x (pos high) t)
     go : (z : ℤ) → (pos low ≤ℤ z) × (z ≤ℤ pos high) → (low ≤ natAbs z) × (natAbs z ≤ high) × (z ≡ pos (natAbs z))
     go (pos n) h = (omega (arith, parts, h .0), omega (arith, parts, h .1), refl)
     go (negsuc n) h = absurd (h .0 .le)
+
+-- a range around 0 bounds the size
+pub between-within : (k : ℕ) (x : ℤ) → T (between (negsuc k) x (pos (suc k))) → Within (suc k) x
+between-within k x t = let h = between-yes (negsuc k) x (pos (suc k)) t in omega (arith, parts, sizes)
 
 -- ---- 0 ≤ x < side
 pub record InSide (side x : ℤ) : Type 0 where

@@ -1,36 +1,32 @@
 -- What a permitted solid and a point of its box give, as sizes. Every box lies in the cube of side 1024, so whatever is looked at inside lies there.
-use mathlib.Core.Path.{_≡_}
-use mathlib.Core.Bool.{true}
 use mathlib.Core.List.{List}
-use Prim.Native.Nat.{ℕ, suc}
+use Prim.Native.Nat.{ℕ}
 use native.Mathlib.Omega.{arith}
 use lib.IntN.{ℤ, pos, negsuc}
+use mir.Facts.{and-yes}
 use Rattle.integers.specs.Order.{parts}
 use Rattle.integers.specs.Sizes.{Within, sizes}
-use Rattle.integers.specs.Tests.{first-of, second-of}
 use Rattle.rules.specs.declared.Vector.{Vector}
 use Rattle.rules.specs.declared.Wedge.{Wedge}
 use Rattle.rules.specs.declared.Solid.{Solid}
 use Rattle.rules.specs.declared.Solid.the-variants.{Wedge as IsWedge}
 use Rattle.rules.specs.Solids.{between, permittedWedge}
-use Rattle.range.specs.Ranges.{between-yes}
+use Rattle.range.specs.Ranges.{between-within}
 use Rattle.laws.specs.Ranges.{Between, Bounded}
 use Rattle.laws.specs.Boxes.{look-inside, solid-cube}
 use Rattle.solid.specs.Asks.{PermittedSolid, InBoxOf, WedgeAsks}
 
-between-within : (k : ℕ) (x : ℤ) → between (negsuc k) x (pos (suc k)) ≡ true → Within (suc k) x
-between-within k x e = let s = between-yes (negsuc k) x (pos (suc k)) (rw e tt) in omega (arith, parts, sizes)
-
 pub wedge-asks : {w : Wedge} {bytes : List ℕ} → PermittedSolid (IsWedge w) bytes → WedgeAsks w
 unfolding permittedWedge
 wedge-asks {w} h =
-    let b = second-of (between (negsuc 999) (w .a) (pos 1000)) _ (h .is) in
-    let c = second-of (between (negsuc 999) (w .b) (pos 1000)) _ b in
+    let a = and-yes (between (negsuc 999) (w .a) (pos 1000)) _ (rw (h .is) tt) in
+    let b = and-yes (between (negsuc 999) (w .b) (pos 1000)) _ (a .1) in
+    let c = and-yes (between (negsuc 999) (w .c) (pos 1000)) _ (b .1) in
     record {
-      in-a = between-within 999 (w .a) (first-of _ _ (h .is));
-      in-b = between-within 999 (w .b) (first-of _ _ b);
-      in-c = between-within 999 (w .c) (first-of _ _ c);
-      in-h = between-within 3999999 (w .h) (second-of (between (negsuc 999) (w .c) (pos 1000)) _ c);
+      in-a = between-within 999 (w .a) (a .0);
+      in-b = between-within 999 (w .b) (b .0);
+      in-c = between-within 999 (w .c) (c .0);
+      in-h = between-within 3999999 (w .h) (c .1);
     }
 
 -- ---- a point of the box lies in the cube of side 1024
