@@ -156,9 +156,6 @@ module _ {src out mid : List ℕ} {from to w h size : ℕ} (S : SliceSides w h) 
   pub rows-cleared : {after : List ℕ} → after ≡ cleared h w mid to → after ≡ sets out to (rows h w (drop from src))
   rows-cleared e = e ∙ copied
 
-  pub copy-room : CopyRoom src from out to size
-  copy-room = record { source = let e = Z .is in let s = R .source in omega arith; target = let e = Z .is in let s = R .target in omega arith }
-
   pub clear-room : length mid ≡ length out → RowRoom mid to w h
   unfolding sliceBytes
   clear-room l = record { wide = S .wide; target = let s = R .target in omega arith }

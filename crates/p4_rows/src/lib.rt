@@ -1,6 +1,6 @@
 // A copy of the rows of one image, with padding bits zero.
 ghost use mathlib.Core.Path.{_≡_};
-ghost use Prim.Native.Nat.{_/_, _*_, _^_, _≤_, _<_};
+ghost use Prim.Native.Nat.{_/_, _*_, _^_, _<_};
 ghost use lib.ListN.{take, drop};
 ghost use lib.Seq.{sets};
 ghost use Rattle.rules.specs.Solids.{sliceBytes};

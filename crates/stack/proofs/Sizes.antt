@@ -9,7 +9,7 @@ use mir.Val.{Fits, toZ, ofZ}
 use mir.Facts.{fits-le, fits-lit}
 use Rattle.rules.specs.declared.Stack.{Stack}
 use Rattle.rules.specs.Solids.{rowBytes, sliceBytes, stackBytes}
-use Rattle.stack.specs.Sides.{Side, SideOf, SidesOf, side-kept, side-read}
+use Rattle.stack.specs.Sides.{Side, SidesOf, side-kept, side-read}
 use Rattle.stack.specs.Bytes.{SliceSides, RowBytes, SliceBytes}
 
 pub row-bytes : {w : ℕ} → Side w → RowBytes w ((w + 7) / 8)

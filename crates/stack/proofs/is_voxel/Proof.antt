@@ -1,12 +1,12 @@
 -- The place is the definition's and one of the bytes, so no product on the way to it is too large.
 use borrow.Author.Needs.{needs}
-use mathlib.Core.Path.{_≡_, refl}
+use mathlib.Core.Path.{refl}
 use mathlib.Core.List.{List}
-use Prim.Native.Nat.{ℕ, _+_, _*_, _/_, _≤_, _<_}
+use Prim.Native.Nat.{ℕ, _+_, _*_, _/_, _<_}
 use native.Mathlib.Nat.{mul-le-mul-left}
 use native.Mathlib.Omega.{arith}
 use lib.ListN.{length}
-use Rattle.rules.specs.Solids.{rowBytes, voxel}
+use Rattle.rules.specs.Solids.{voxel}
 use Rattle.stack.specs.Bytes.{RowBytes}
 use Rattle.stack.specs.Voxels.{VoxelHeld}
 use Rattle.stack.proofs.is_voxel.Statement.{statement}
