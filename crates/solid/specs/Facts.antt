@@ -2,6 +2,7 @@
 use mathlib.Core.List.{List}
 use Prim.Native.Nat.{ℕ}
 use native.Mathlib.Omega.{arith}
+use lib.Dec.{T}
 use lib.IntN.{ℤ, pos, negsuc}
 use mir.Facts.{and-yes}
 use Rattle.integers.specs.Order.{parts}
@@ -19,7 +20,8 @@ use Rattle.solid.specs.Asks.{PermittedSolid, InBoxOf, WedgeAsks}
 pub wedge-asks : {w : Wedge} {bytes : List ℕ} → PermittedSolid (IsWedge w) bytes → WedgeAsks w
 unfolding permittedWedge
 wedge-asks {w} h =
-    let a = and-yes (between (negsuc 999) (w .a) (pos 1000)) _ (rw (h .is) tt) in
+    let t : T (permittedWedge w) = rw (h .is) tt in
+    let a = and-yes (between (negsuc 999) (w .a) (pos 1000)) _ t in
     let b = and-yes (between (negsuc 999) (w .b) (pos 1000)) _ (a .1) in
     let c = and-yes (between (negsuc 999) (w .c) (pos 1000)) _ (b .1) in
     record {
