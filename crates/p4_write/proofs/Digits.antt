@@ -5,6 +5,7 @@ use Prim.Native.Nat.{ℕ, _+_, _/_, _≤_, _<_}
 use native.Mathlib.Omega.{arith}
 use lib.ListN.{length, length-append}
 use Rattle.rules.specs.Decimals.{figure, decimal}
+use Rattle.stack.specs.Sides.{Side}
 use Rattle.text.specs.Decimals.{decimal-one, decimal-more}
 use Rattle.p4_write.specs.Slices.{Figures}
 
@@ -20,5 +21,5 @@ more-figures n {k} h l F = record {
 pub two-figures : (n : ℕ) → 10 ≤ n → n < 100 → Figures n 2
 two-figures n h l = more-figures n h (omega arith) (one-figure (n / 10) (omega arith))
 
-pub three-figures : (n : ℕ) → 10 ≤ n → 100 ≤ n → n ≤ 256 → Figures n 3
-three-figures n h l m = more-figures n h (omega arith) (two-figures (n / 10) (omega arith) (omega arith))
+pub three-figures : (n : ℕ) → 10 ≤ n → 100 ≤ n → Side n → Figures n 3
+three-figures n h l s = let m = s .most in more-figures n h (omega arith) (two-figures (n / 10) (omega arith) (omega arith))

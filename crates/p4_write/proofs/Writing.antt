@@ -6,18 +6,15 @@ use Prim.Native.Nat.{ℕ, suc, _+_, _-_, _*_, _≤_, _<_}
 use native.Mathlib.Nat.{zero-add, suc-mul, mul-le-mul, mul-le-mul-right}
 use native.Mathlib.Omega.{arith}
 use lib.Dec.{leb}
-use lib.IntN.{ℤ, natAbs}
 use lib.ListN.{length, drop, length-append, length-drop}
 use lib.Seq.{sets, sets-eq, drop-drop}
 use borrow.Author.Tests.{le-leb, lt-leb}
-use mir.Syntax.{w32}
-use mir.Val.{toZ, ofZ}
 use Rattle.rules.specs.declared.Stack.{Stack}
 use Rattle.rules.specs.declared.Writing.{Writing}
 use Rattle.rules.specs.declared.Writing.the-variants.{Written, Unwritten}
 use Rattle.rules.specs.Solids.{rowBytes, sliceBytes, stackBytes, permittedStack}
 use Rattle.rules.specs.P4.{Judged, good, wrong, _>>=_, judge, rows, plainHeader, slices, plain, sizes, writing, writeAnswer, stored, WritePromise}
-use Rattle.stack.specs.Sides.{Sized, stack-is, permits, side-kept, side-read}
+use Rattle.stack.specs.Sides.{Sized, stack-is, permits, cast, side-kept, side-cast}
 use Rattle.stack.specs.Bytes.{SliceSides, SliceBytes}
 use Rattle.text.specs.Put.{Put}
 use Rattle.text.specs.Puts.{sets-append, put-then}
@@ -75,7 +72,7 @@ module _ {src first out : List ℕ} {w h d at from left : ℕ} (S : SlicesRoom w
       omega arith
 
   pub header-room : HeaderRoom out at w h
-  header-room = let f = fills in let m = G .same in let t = S .target in record { wide = S .ask .sides .wide .most; high = S .ask .sides .high .most; room = record { fits = omega arith } }
+  header-room = let f = fills in let m = G .same in let t = S .target in record { sides = slice-sides (S .ask); room = record { fits = omega arith } }
 
   module _ {mid : List ℕ} {o : ℕ} (P : Put out at (plainHeader w h) mid o) where
     -- for these rows, or fewer
@@ -173,21 +170,18 @@ module _ {bytes : List ℕ} {w h d size a b : ℕ} (S : SlicesAsk w h d bytes) (
         }
 
 -- ---- a permitted stack, its sides cast
-abbrev bits : ℤ → ℕ
-bits n = natAbs (toZ w32 (ofZ w32 n))
-
 module _ {k : Stack} {bytes : List ℕ} (S : Sized k bytes) where
-  same : sizes (bits (k .width)) (bits (k .height)) (bits (k .depth)) ≡ k
+  same : sizes (cast (k .width)) (cast (k .height)) (cast (k .depth)) ≡ k
   same = let s = S .of in (λ i. sizes (side-kept (s .wide) i) (side-kept (s .high) i) (side-kept (s .deep) i)) ∙ sym (stack-is s)
 
-  pub slices-ask : SlicesAsk (bits (k .width)) (bits (k .height)) (bits (k .depth)) bytes
+  pub slices-ask : SlicesAsk (cast (k .width)) (cast (k .height)) (cast (k .depth)) bytes
   unfolding stackBytes
   slices-ask =
       let s = S .of in
       record {
-        sides = record { wide = side-read (s .wide); high = side-read (s .high); deep = side-read (s .deep) };
+        sides = record { wide = side-cast (s .wide); high = side-cast (s .high); deep = side-cast (s .deep) };
         source = subst (λ (x : Stack). stackBytes x ≤ length bytes) (sym same) (S .enough);
       }
 
-  pub write-cast : {out after : List ℕ} {x : Writing} → WritePromise (sizes (bits (k .width)) (bits (k .height)) (bits (k .depth))) bytes out after x → WritePromise k bytes out after x
+  pub write-cast : {out after : List ℕ} {x : Writing} → WritePromise (sizes (cast (k .width)) (cast (k .height)) (cast (k .depth))) bytes out after x → WritePromise k bytes out after x
   write-cast {out} {after} {x} W = subst (λ (y : Stack). WritePromise y bytes out after x) same W

@@ -7,6 +7,7 @@ use Rattle.rules.specs.Solids.{sliceBytes}
 use Rattle.rules.specs.Decimals.{decimal}
 use Rattle.rules.specs.P4.{plainHeader, slices}
 use Rattle.stack.specs.Sides.{Sides}
+use Rattle.stack.specs.Bytes.{SliceSides}
 use Rattle.text.specs.Put.{Room}
 
 pub record Figures (n r : ℕ) : Type 0 where
@@ -14,8 +15,7 @@ pub record Figures (n r : ℕ) : Type 0 where
   pub few : r ≤ 3
 
 pub record HeaderRoom (out : List ℕ) (at width height : ℕ) : Type 0 where
-  pub wide : width ≤ 256
-  pub high : height ≤ 256
+  pub sides : SliceSides width height
   pub room : Room out at (plainHeader width height)
 
 -- a stack whose bytes are enough

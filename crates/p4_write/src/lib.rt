@@ -1,14 +1,14 @@
 // The writer of P4 stacks: the plain form.
 use rules::Stack;
 use rules::Writing;
-ghost use Prim.Native.Nat.{_≤_};
 ghost use Rattle.rules.specs.P4.{sizes, plainHeader, slices, WritePromise};
+ghost use Rattle.stack.specs.Sides.{Side};
 ghost use Rattle.text.specs.Put.{Put};
 ghost use Rattle.p4_write.specs.Slices.{Figures, HeaderRoom, SlicesAsk, SlicesRoom};
 
 // How many digits a side has.
 fn figures(n: usize) -> usize
-    requires { ⌜ n ≤ 256 ⌝ }
+    requires { ⌜ Side n ⌝ }
     ensures { λ r. ⌜ Figures n r ⌝ }
 {
     if n < 10 {

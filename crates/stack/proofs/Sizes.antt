@@ -3,13 +3,12 @@ use mathlib.Core.Path.{_≡_, refl, ap, ap₂, _∙_}
 use Prim.Native.Nat.{ℕ, _+_, _*_, _/_, _≤_}
 use native.Mathlib.Nat.{mul-le-mul}
 use native.Mathlib.Omega.{arith}
-use lib.IntN.{ℤ, natAbs}
-use mir.Syntax.{w32, w64}
-use mir.Val.{Fits, toZ, ofZ}
+use mir.Syntax.{w64}
+use mir.Val.{Fits}
 use mir.Facts.{fits-le, fits-lit}
 use Rattle.rules.specs.declared.Stack.{Stack}
 use Rattle.rules.specs.Solids.{rowBytes, sliceBytes, stackBytes}
-use Rattle.stack.specs.Sides.{Side, SidesOf, side-kept, side-read}
+use Rattle.stack.specs.Sides.{Side, SidesOf, cast, side-kept, side-cast}
 use Rattle.stack.specs.Bytes.{SliceSides, RowBytes, SliceBytes}
 
 pub row-bytes : {w : ℕ} → Side w → RowBytes w ((w + 7) / 8)
@@ -29,16 +28,13 @@ module _ {w h b : ℕ} (s : SliceSides w h) (r : RowBytes w b) where
 
 -- ---- the whole
 module _ {k : Stack} (s : SidesOf k) where
-  abbrev bits : ℤ → ℕ
-  bits n = natAbs (toZ w32 (ofZ w32 n))
+  pub slice-sides : SliceSides (cast (k .width)) (cast (k .height))
+  slice-sides = record { wide = side-cast (s .wide); high = side-cast (s .high) .most }
 
-  pub slice-sides : SliceSides (bits (k .width)) (bits (k .height))
-  slice-sides = record { wide = side-read (s .wide); high = side-read (s .high) .most }
+  module _ {n : ℕ} (z : SliceBytes (cast (k .width)) (cast (k .height)) n) where
+    pub stack-fits : Fits w64 (cast (k .depth) * n)
+    stack-fits = fits-le (mul-le-mul (side-cast (s .deep) .most) (z .small)) (fits-lit tt)
 
-  module _ {n : ℕ} (z : SliceBytes (bits (k .width)) (bits (k .height)) n) where
-    pub stack-fits : Fits w64 (bits (k .depth) * n)
-    stack-fits = fits-le (mul-le-mul (side-read (s .deep) .most) (z .small)) (fits-lit tt)
-
-    pub stack-bytes : bits (k .depth) * n ≡ stackBytes k
+    pub stack-bytes : cast (k .depth) * n ≡ stackBytes k
     unfolding stackBytes
     stack-bytes = ap₂ _*_ (side-kept (s .deep)) (z .is ∙ ap₂ sliceBytes (side-kept (s .wide)) (side-kept (s .high)))

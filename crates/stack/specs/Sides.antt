@@ -45,9 +45,6 @@ pub record Sized (k : Stack) (bytes : List ℕ) : Type 0 where
   pub of : SidesOf k
   pub enough : stackBytes k ≤ length bytes
 
-pub sides-are : {k : Stack} → SidesOf k → Sides (natAbs (k .width)) (natAbs (k .height)) (natAbs (k .depth))
-sides-are s = record { wide = s .wide .side; high = s .high .side; deep = s .deep .side }
-
 pub stack-is : {k : Stack} → SidesOf k → k ≡ sizes (natAbs (k .width)) (natAbs (k .height)) (natAbs (k .depth))
 stack-is s = λ i. record { width = s .wide .is i; height = s .high .is i; depth = s .deep .is i }
 
@@ -98,25 +95,26 @@ permitted-too k bytes other e l =
     permitted-stack k other
     ∙ both (first-of (sizesPermitted k) (leb (stackBytes k) (length bytes)) (sym (permitted-stack k bytes) ∙ e)) (le-leb (stackBytes k) (length other) l)
 
--- ---- a side, cast to `usize`: the cast keeps it
-module _ {n : ℤ} (s : SideOf n) where
-  abbrev bits : ℤ
-  bits = toZ w32 (ofZ w32 n)
+-- ---- a side, cast to `usize`: the cast reads its bits, and keeps it
+abbrev pub cast : ℤ → ℕ
+cast n = natAbs (toZ w32 (ofZ w32 n))
 
+module _ {n : ℤ} (s : SideOf n) where
   within : Within 256 n
   within = record { size = s .side .most }
-
-  pub side-low : pos 0 ≤ℤ n
-  side-low = let e = s .is in omega (arith, parts)
 
   pub side-high : n ≤ℤ pos 256
   side-high = omega (arith, parts, within-parts within)
 
-  pub side-cast : T (nonNeg bits) × Fits w64 (natAbs bits)
-  side-cast = let w = within in fits-unsigned (search machine depth 30 fits 5000) tt side-low
+  pub side-casts : T (nonNeg (toZ w32 (ofZ w32 n))) × Fits w64 (cast n)
+  side-casts =
+      let w = within in
+      let e = s .is in
+      let low : pos 0 ≤ℤ n = omega (arith, parts) in
+      fits-unsigned (search machine depth 30 fits 5000) tt low
 
-  pub side-kept : natAbs bits ≡ natAbs n
+  pub side-kept : cast n ≡ natAbs n
   side-kept = let w = within in value (search machine depth 30 fits 5000) tt
 
-  pub side-read : Side (natAbs bits)
-  side-read = rw side-kept (s .side)
+  pub side-cast : Side (cast n)
+  side-cast = rw side-kept (s .side)

@@ -64,11 +64,10 @@ unfolding stackBytes
 voxel-held h = lt-of-lt-of-le (place-in (h .along-x .below) (h .along-y .below) (h .along-z .below)) (h .sized .enough)
 
 -- ---- lent bytes that agree on the voxels of the box have the same looks
-module _ (k : Stack) (a b : List ℕ) (voxels : (v : Vector) → inBox (box (IsStack k)) v ≡ true → filledStack k a v ≡ filledStack k b v) where
-  seen-alike : (inside f g : Bool) → (inside ≡ true → f ≡ g) → seenAs inside f ≡ seenAs inside g
-  seen-alike false f g h = refl
-  seen-alike true f g h = λ i. seenAs true (h refl i)
+seen-alike : (inside f g : Bool) → (inside ≡ true → f ≡ g) → seenAs inside f ≡ seenAs inside g
+seen-alike false f g h = refl
+seen-alike true f g h = λ i. seenAs true (h refl i)
 
-  pub looks-alike : (v : Vector) → look (IsStack k) a v ≡ look (IsStack k) b v
-  unfolding look
-  looks-alike v = seen-alike (inBox (box (IsStack k)) v) (filledStack k a v) (filledStack k b v) (voxels v)
+pub looks-alike : (k : Stack) (a b : List ℕ) → ((v : Vector) → inBox (box (IsStack k)) v ≡ true → filledStack k a v ≡ filledStack k b v) → (v : Vector) → look (IsStack k) a v ≡ look (IsStack k) b v
+unfolding look
+looks-alike k a b voxels v = seen-alike (inBox (box (IsStack k)) v) (filledStack k a v) (filledStack k b v) (voxels v)

@@ -2,7 +2,7 @@
 use borrow.Author.Needs.{needs}
 use mathlib.Core.Path.{sym, _∙_}
 use denote.Ref.{now}
-use Rattle.stack.specs.Sides.{Sized, sized, side-cast}
+use Rattle.stack.specs.Sides.{Sized, sized, side-casts}
 use Rattle.p4_write.proofs.Writing.{write-refused, slices-ask, write-cast}
 use Rattle.p4_write.proofs.write.Statement.{statement}
 use Rattle.p4_write.proofs.write.Tie as tie
@@ -15,9 +15,9 @@ write-spec =
     tie.close
     (tie.spec
     (λ c κs. search needs)
-    (λ c. side-cast (its-sides (c .before .before) .of .wide))
-    (λ c. side-cast (its-sides (c .before .before .before .before) .of .high))
-    (λ c. side-cast (its-sides (c .before .before .before .before .before .before) .of .deep))
+    (λ c. side-casts (its-sides (c .before .before) .of .wide))
+    (λ c. side-casts (its-sides (c .before .before .before .before) .of .high))
+    (λ c. side-casts (its-sides (c .before .before .before .before .before .before) .of .deep))
     (λ c κs. slices-ask (its-sides (c .before .before .before .before .before .before .before)))
     (λ c. search needs)
     (λ c. let w = c .before .before in write-cast (its-sides (w .before .before .before .before .before .before .before .before)) (w .write-stack .ensures))

@@ -9,7 +9,7 @@ use Rattle.integers.specs.Machine.{machine, fits-unsigned, value}
 use Rattle.rules.specs.declared.Vector.{Vector}
 use Rattle.rules.specs.declared.Stack.{Stack}
 use Rattle.rules.specs.Solids.{voxel, filledStack}
-use Rattle.stack.specs.Sides.{side-cast, side-kept}
+use Rattle.stack.specs.Sides.{side-casts, side-kept}
 use Rattle.stack.specs.Voxels.{VoxelHeld, PointHeld, voxel-held}
 use Rattle.stack.proofs.is_filled.Statement.{statement}
 use Rattle.stack.proofs.is_filled.Tie as tie
@@ -38,8 +38,8 @@ pub is-filled-spec : {M : Type 1} → statement M
 is-filled-spec =
     tie.close
     (tie.spec
-    (λ c. search side-cast)
-    (λ c. search side-cast)
+    (λ c. search side-casts)
+    (λ c. search side-casts)
     (λ c. fits-unsigned (search machine depth 30 fits 5000) tt (search needs))
     (λ c. fits-unsigned (search machine depth 30 fits 5000) tt (search needs))
     (λ c. fits-unsigned (search machine depth 30 fits 5000) tt (search needs))
