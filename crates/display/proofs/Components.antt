@@ -15,7 +15,7 @@ use Rattle.rules.specs.Display.{square, largest, sizeOf, component, isNegative}
 use Rattle.display.specs.Parts.{Square, Part, Low, Size, Whole, Shown}
 use Rattle.display.specs.Roots.{largest-within}
 use Rattle.display.specs.Floats.{divided}
-use Rattle.display.proofs.Ranges.{back}
+use Rattle.display.proofs.Bits.{back}
 
 module _ {s r : ℕ} {n : ℤ} (b : SFits w32 n) (P : Part s n) (Q : Square (back n) r) where
   is-square : r ≡ square n

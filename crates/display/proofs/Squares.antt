@@ -9,7 +9,7 @@ use mir.Val.{Fits, SFits}
 use mir.Facts.{toZ-ofZ, fits-le, fits-lit}
 use Rattle.rules.specs.Display.{square, squares}
 use Rattle.display.specs.Parts.{Square}
-use Rattle.display.proofs.Ranges.{back}
+use Rattle.display.proofs.Bits.{back}
 
 size-small : {n : ℤ} {r : ℕ} → SFits w32 n → r ≡ natAbs (back n) → r * r ≤ 2 ^ 62
 size-small {n} s e =

@@ -4,7 +4,7 @@ use Prim.Native.Nat.{ℕ, _≤_}
 use Rattle.rules.specs.Walk.{Probe}
 use Rattle.laws.specs.Frames.{Signs}
 use Rattle.laws.specs.Boxes.{probeOn}
-use Rattle.solid.specs.Asks.{Permitted, Inside}
+use Rattle.solid.specs.Asks.{PermittedSolid, InBoxOf}
 use Rattle.falls.specs.declared.Scene.{Scene}
 
 -- a scene's probe, with the bytes lent
@@ -12,7 +12,7 @@ abbrev pub probeOf : Scene → List ℕ → Probe
 probeOf v bytes = probeOn (v .solid) bytes (v .apex) (v .signs) (v .reach)
 
 pub record Ready (v : Scene) (bytes : List ℕ) : Type 0 where
-  pub permitted : Permitted (v .solid) bytes
-  pub placed : Inside (v .solid) (v .apex)
+  pub permitted : PermittedSolid (v .solid) bytes
+  pub placed : InBoxOf (v .solid) (v .apex)
   pub signed : Signs (v .signs)
   pub reach-high : v .reach ≤ 256

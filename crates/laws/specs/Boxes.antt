@@ -1,13 +1,12 @@
 -- The box of a solid: a look is outside exactly outside the box, and the box of a permitted solid lies in a cube of side 1024, a stack's of side 256.
 use mathlib.Core.Path.{_≡_, refl}
-use mathlib.Core.Bool.{Bool, true, false, not, _&&_}
+use mathlib.Core.Bool.{Bool, true, false, not}
 use mathlib.Core.List.{List}
 use Prim.Native.Nat.{ℕ, suc}
 use native.Mathlib.Omega.{arith}
 use lib.Dec.{T, leb, lit≤}
 use lib.IntN.{ℤ, pos}
-use lib.ListN.{length}
-use lib.Signed.{_≤ℤ_, _<ℤ_, leZ, ltZ, leZ-yes, ltZ-yes}
+use lib.Signed.{_≤ℤ_, leZ-yes}
 use Rattle.integers.specs.Order.{parts}
 use Rattle.rules.specs.declared.Vector.{Vector}
 use Rattle.rules.specs.declared.Stack.{Stack}
@@ -21,9 +20,11 @@ use Rattle.rules.specs.declared.Choice.the-variants.{Chosen}
 use Rattle.rules.specs.Vectors.{vector}
 use Rattle.rules.specs.Asked.{answered}
 use Rattle.rules.specs.Walk.{powers, units, step, Probe, round}
-use Rattle.rules.specs.Solids.{between, permittedSize, stackBytes, permittedStack, permitted, box, inSide, inBox, filled, seenAs, look}
+use Rattle.rules.specs.Solids.{permittedStack, permitted, box, inBox, filled, seenAs, look}
 use Rattle.rules.specs.Pick.{isInside}
-use Rattle.laws.specs.Tests.{In, first-of, second-of}
+use Rattle.range.specs.Ranges.{InSide, in-sides}
+use Rattle.stack.specs.Sides.{sized, side-high}
+use Rattle.laws.specs.Tests.{is-true, In}
 use Rattle.laws.specs.Parts.{Parts}
 use Rattle.laws.specs.Triples.{All}
 use Rattle.laws.specs.Frames.{Signs}
@@ -60,36 +61,14 @@ unfolding look
 look-told solid bytes p b e = seen-told (inBox (box solid) p) (filled solid bytes p) b e
 
 -- ---- cubes
-pub between-yes : (low x high : ℤ) → T (between low x high) → (low ≤ℤ x) × (x ≤ℤ high)
-unfolding between
-between-yes low x high t = (leZ-yes (first-of (leZ low x) (leZ x high) t), leZ-yes (second-of (leZ low x) (leZ x high) t))
-
-in-side : (M : ℕ) (side x : ℤ) → side ≤ℤ pos (suc M) → T (inSide side x) → Between M x
-in-side M side x h t =
-    let low : pos 0 ≤ℤ x = leZ-yes (first-of (leZ (pos 0) x) (ltZ x side) t) in
-    let high : x <ℤ side = ltZ-yes (second-of (leZ (pos 0) x) (ltZ x side) t) in
-    record { low = low; high = omega (arith, parts) }
-
 pub in-cube : (M : ℕ) (sides p : Vector) → Parts (λ side. side ≤ℤ pos (suc M)) sides → T (inBox sides p) → InCube M p
-unfolding inBox
-in-cube M sides p h t =
-    let yz = second-of (inSide (sides .x) (p .x)) (inSide (sides .y) (p .y) && inSide (sides .z) (p .z)) t in
-    record {
-      ofX = in-side M (sides .x) (p .x) (h .ofX) (first-of (inSide (sides .x) (p .x)) (inSide (sides .y) (p .y) && inSide (sides .z) (p .z)) t);
-      ofY = in-side M (sides .y) (p .y) (h .ofY) (first-of (inSide (sides .y) (p .y)) (inSide (sides .z) (p .z)) yz);
-      ofZ = in-side M (sides .z) (p .z) (h .ofZ) (second-of (inSide (sides .y) (p .y)) (inSide (sides .z) (p .z)) yz);
-    }
+in-cube M sides p h t = let i = in-sides sides p t in record { ofX = below (h .ofX) (i .of-x); ofY = below (h .ofY) (i .of-y); ofZ = below (h .ofZ) (i .of-z) }
+  where
+    below : {side x : ℤ} → side ≤ℤ pos (suc M) → InSide side x → Between M x
+    below h i = record { low = i .low; high = omega (arith, parts) }
 
 stack-sides : (k : Stack) (bytes : List ℕ) → T (permittedStack k bytes) → Parts (λ side. side ≤ℤ pos 256) (box (IsStack k))
-unfolding permittedStack
-stack-sides k bytes t =
-    let d = permittedSize (k .depth) && leb (stackBytes k) (length bytes) in
-    let hd = second-of (permittedSize (k .width)) (permittedSize (k .height) && d) t in
-    record {
-      ofX = between-yes (pos 1) (k .width) (pos 256) (first-of (permittedSize (k .width)) (permittedSize (k .height) && d) t) .1;
-      ofY = between-yes (pos 1) (k .height) (pos 256) (first-of (permittedSize (k .height)) d hd) .1;
-      ofZ = between-yes (pos 1) (k .depth) (pos 256) (first-of (permittedSize (k .depth)) (leb (stackBytes k) (length bytes)) (second-of (permittedSize (k .height)) d hd)) .1;
-    }
+stack-sides k bytes t = let s = sized (is-true (permittedStack k bytes) t) .of in record { ofX = side-high (s .wide); ofY = side-high (s .high); ofZ = side-high (s .deep) }
 
 pub stack-cube : (k : Stack) (bytes : List ℕ) → T (permittedStack k bytes) → (p : Vector) → T (isInside (look (IsStack k) bytes p)) → InCube 255 p
 stack-cube k bytes t p i = in-cube 255 (box (IsStack k)) p (stack-sides k bytes t) (rw (look-inside (IsStack k) bytes p) at i)

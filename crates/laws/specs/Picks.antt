@@ -33,7 +33,7 @@ use Rattle.laws.specs.Axes.{AxesOf, levels-answered, AxisRule, axes-says
 use Rattle.laws.specs.Powers.{looks-add-up, three-most}
 use Rattle.laws.specs.Walks.{WalkRule, walk-says}
 use Rattle.laws.specs.PickRule.{Passed, Faced, PickRule, pick-by-rule}
-use Rattle.laws.specs.Boxes.{between-yes}
+use Rattle.range.specs.Ranges.{between-yes}
 
 -- ---- what a refusal tells
 -- n steps: at most R - 2, and where one was taken, at most R less the axes that remained when they were asked

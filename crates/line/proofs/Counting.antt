@@ -12,24 +12,15 @@ use lib.Seq.{drop-cons}
 use mir.Syntax.{w64}
 use mir.Val.{Fits}
 use borrow.Author.Tests.{le-leb, lt-leb, leb-true}
+use Rattle.integers.specs.Tests.{not-second, first-of, second-of}
 use Rattle.rules.specs.Decimals.{isDigit, areDigits, value}
 use Rattle.rules.specs.Session.{fewDigits}
 use Rattle.line.specs.declared.Digits.the-variants.{Value, NoDigits}
 use Rattle.line.specs.Reading.{digitsOf, DigitsRead}
 
--- both of a joined test
-both : (a b : Bool) → (a && b) ≡ true → (a ≡ true) × (b ≡ true)
-both true b e = (refl, e)
-both false true e = (e, refl)
-both false false e = (e, e)
-
-second-no : (a b : Bool) → b ≡ false → (a && b) ≡ false
-second-no true b e = e
-second-no false b e = refl
-
 digit-range : (b : ℕ) → isDigit b ≡ true → (48 ≤ b) × (b ≤ 57)
 unfolding isDigit
-digit-range b e = let h = both (leb 48 b) (leb b 57) e in (leb-true 48 b (h .0), leb-true b 57 (h .1))
+digit-range b e = (leb-true 48 b (first-of (leb 48 b) (leb b 57) e), leb-true b 57 (second-of (leb 48 b) (leb b 57) e))
 
 -- ---- ways out that give no digits
 no-digits : (part : List ℕ) → fewDigits part ≡ false → DigitsRead part NoDigits
@@ -41,7 +32,7 @@ none {part} h = no-digits part (ap (λ (t : Bool). t && (leb (length part) 10 &&
 
 pub too-many : {part : List ℕ} → 10 < length part → DigitsRead part NoDigits
 unfolding fewDigits
-too-many {part} h = no-digits part (second-no (leb 1 (length part)) _ (ap (λ (t : Bool). t && areDigits part) (lt-leb (length part) 10 h)))
+too-many {part} h = no-digits part (not-second (leb 1 (length part)) (ap (λ (t : Bool). t && areDigits part) (lt-leb (length part) 10 h)))
 
 pub record Reading (part : List ℕ) (i v : ℕ) : Type 0 where
   pub some : 1 ≤ length part
@@ -103,7 +94,7 @@ module _ {part : List ℕ} {i v : ℕ} (R : Reading part i v) where
 
     pub no-digit : r ≡ false → DigitsRead part NoDigits
     unfolding fewDigits areDigits
-    no-digit y = no-digits part (second-no (leb 1 (length part)) _ (second-no (leb (length part) 10) _ (R .digits ∙ ap areDigits (cut h) ∙ ap (λ (t : Bool). t && areDigits (drop (i + 1) part)) (sym e ∙ y))))
+    no-digit y = no-digits part (not-second (leb 1 (length part)) (not-second (leb (length part) 10) (R .digits ∙ ap areDigits (cut h) ∙ ap (λ (t : Bool). t && areDigits (drop (i + 1) part)) (sym e ∙ y))))
 
   pub all-read : length part ≤ i → DigitsRead part (Value v)
   unfolding fewDigits areDigits value

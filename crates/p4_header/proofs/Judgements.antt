@@ -7,9 +7,10 @@ use native.Mathlib.Omega.{arith}
 use lib.ListN.{length, getD, drop, List·getD-eq-default}
 use lib.Dec.{leb, ltb}
 use borrow.Author.Tests.{le-leb, lt-leb, leb-true, leb-false, lt-ltb, le-ltb, not-true, not-false}
+use Rattle.integers.specs.Tests.{both, not-first, not-second}
 use Rattle.rules.specs.P4.{Judged, good, wrong, _>>=_, _>>_, judge, isEnd, isWhite, magic, white, digitsAt, Field, fieldAt, headerAt}
 use Rattle.p4_laws.specs.White.{space-reads, comment-reads, other-refused}
-use Rattle.p4_laws.specs.Judging.{on, off, pass, fail, both, not-first, not-second}
+use Rattle.p4_laws.specs.Judging.{on, off, pass, fail}
 use Rattle.p4_header.specs.declared.PlaceRead.{PlaceRead}
 use Rattle.p4_header.specs.declared.PlaceRead.the-variants.{At, NotAt}
 use Rattle.p4_header.specs.declared.FieldRead.{FieldRead}

@@ -6,9 +6,9 @@ use Prim.Native.Nat.{ℕ, _+_, _-_, _*_, _≤_, min}
 use native.Mathlib.Omega.{arith}
 use lib.Dec.{leb}
 use borrow.Author.Tests.{eq-eqb, ne-eqb, leb-true}
+use Rattle.integers.specs.Tests.{first-of, second-of}
 use Rattle.rules.specs.Decimals.{isDigit}
 use Rattle.rules.specs.P4.{good, isEnd, isWhite, commentAt, mix, digitsAt}
-use Rattle.p4_laws.specs.Judging.{first-of, second-of}
 
 module _ (b : ℕ) (bs : List ℕ) (i : ℕ) where
   pub mix-in : mix true (b ∷ bs) i ≡ mix (not (isEnd b)) bs (i + 1)

@@ -6,11 +6,12 @@ use Prim.Native.Nat.{ℕ, _+_, _≤_, _<_}
 use lib.ListN.{length}
 use lib.Dec.{eqb, leb}
 use borrow.Author.Tests.{eq-eqb, ne-eqb, le-leb, lt-leb}
+use Rattle.integers.specs.Tests.{both, not-first, not-second}
 use Rattle.rules.specs.Solids.{sliceBytes}
 use Rattle.rules.specs.P4.{good, _>>=_, _>>_, judge, imageAt}
-use Rattle.p4_laws.specs.Judging.{on, off, pass, fail, both, not-first, not-second}
+use Rattle.p4_laws.specs.Judging.{on, off, pass, fail}
 use Rattle.p4_laws.specs.Headers.{header-in}
-use Rattle.p4_rows.specs.Copies.{SliceBytes}
+use Rattle.stack.specs.Bytes.{SliceBytes}
 use Rattle.p4_header.specs.declared.PlaceRead.the-variants.{At, NotAt}
 use Rattle.p4_header.specs.declared.HeaderRead.{HeaderRead}
 use Rattle.p4_header.specs.declared.HeaderRead.the-variants.{Sizes, NoSizes}

@@ -18,7 +18,8 @@ use Rattle.text.specs.Puts.{sets-append}
 use Rattle.p4_laws.specs.Stores.{sets-swap}
 use Rattle.p4_laws.specs.Headers.{header-in, image-in}
 use Rattle.p4_laws.specs.Images.{followed, images-end, images-full, images-more, rows-of, counted}
-use Rattle.p4_rows.specs.Copies.{SliceBytes, Room, Sides}
+use Rattle.stack.specs.Bytes.{SliceBytes}
+use Rattle.p4_rows.specs.Copies.{CopyRoom}
 use Rattle.p4_header.specs.declared.PlaceRead.{PlaceRead}
 use Rattle.p4_header.specs.declared.PlaceRead.the-variants.{At, NotAt}
 use Rattle.p4_header.specs.declared.HeaderRead.{HeaderRead}
@@ -69,7 +70,7 @@ module _ {s : List ℕ} {w h z at o : ℕ} (A : Asked s at w h) (B : Before o z 
         deeper d = let x : z + suc d ≡ z + 1 + d = omega arith in ap (λ (y : ℕ). y * sliceBytes w h) x
 
         pub next-asked : Asked s (i + c) w h
-        next-asked = record { inside = rows-in; wide = A .wide; high = A .high }
+        next-asked = record { inside = rows-in; sides = A .sides }
 
         pub next-before : Before (o + c) (z + 1) w h
         next-before =
@@ -99,7 +100,7 @@ module _ {s : List ℕ} {w h z at o : ℕ} (A : Asked s at w h) (B : Before o z 
         storing {out = out} (filled {d} {bytes} a l b x) q g =
             let y = deeper d in
             let u : z + 1 + d ≡ z + suc d = omega arith in
-            let v = rows-of w h (A .wide .0) s at found in
+            let v = rows-of w h (A .sides .wide .some) s at found in
             filled (more ∙ on _ a) (omega arith) (sym q ∙ b ∙ ap (λ (D : ℕ). Read (sizes w h D)) u)
             (g
             ∙ ap (λ (t : List ℕ). sets t o (rows h w (drop i s))) x
@@ -122,7 +123,7 @@ module _ {s : List ℕ} {w h z at o : ℕ} (A : Asked s at w h) (B : Before o z 
 
         -- for these rows, or fewer
         pub copy-room : {k : Stack} {out mid : List ℕ} {r : Reading} (g : ℕ) → Part s w h (z + 1) (i + c) (o + c) out mid r → r ≡ Read k → length mid ≡ length out
-            → g ≤ h → Room s i mid o (sliceBytes w g)
+            → g ≤ h → CopyRoom s i mid o (sliceBytes w g)
         unfolding sliceBytes
         copy-room g P q l f =
             let x = roomy P q in
@@ -130,9 +131,6 @@ module _ {s : List ℕ} {w h z at o : ℕ} (A : Asked s at w h) (B : Before o z 
             let u = rows-in in
             let v = mul-le-mul-right (rowBytes w) f in
             record { source = omega arith; target = omega arith }
-
-pub sides : {s : List ℕ} {at w h : ℕ} → Asked s at w h → Sides w h
-sides A = record { some = A .wide .0; wide = A .wide .1; high = A .high }
 
 -- ---- the reader
 pub first-before : (w h : ℕ) → Before 0 0 w h
@@ -146,7 +144,7 @@ read-refused s out {n = n} {p = p} H e =
 
 module _ {s : List ℕ} {r : HeaderRead} {w h i : ℕ} (H : HeaderIs s 0 r) (e : r ≡ Sizes w h i) where
   pub first-asked : Asked s 0 w h
-  first-asked = let x = header-in s 0 (sym (H .is) ∙ ap header e) in record { inside = omega arith; wide = x .wide; high = x .high .1 }
+  first-asked = let x = header-in s 0 (sym (H .is) ∙ ap header e) in record { inside = omega arith; sides = record { wide = x .wide; high = x .high .most } }
 
   contents-is : contents s ≡ (imagesAt 256 w h s 0 >>= λ f. good (record { stack = sizes w h (f .0); bytes = f .1 }))
   unfolding contents
@@ -158,7 +156,7 @@ module _ {s : List ℕ} {r : HeaderRead} {w h i : ℕ} (H : HeaderIs s 0 r) (e :
     judged out = on _ (contents-is ∙ on _ a)
 
     bytes-many : length bytes ≡ d * sliceBytes w h
-    bytes-many = counted w h (header-in s 0 (sym (H .is) ∙ ap header e) .wide .0) s 256 0 a .bytes
+    bytes-many = counted w h (header-in s 0 (sym (H .is) ∙ ap header e) .wide .some) s 256 0 a .bytes
 
   pub read-all : {t : Reading} {out after : List ℕ} → Part s w h 0 0 0 out after t → ReadPromise s out after t
   unfolding reading readAnswer stored

@@ -26,7 +26,7 @@ use Rattle.rules.specs.Pick.{isInside, probe, placing, judging, pick, accepted,
 use Rattle.laws.specs.Frames.{Signs, signs-are}
 use Rattle.laws.specs.Boxes.{look-inside}
 use Rattle.laws.specs.Tally.{Tally, yes, no, tally, Gives, Countable, then-yes, then-no, ensured, not-ensured, at-once}
-use Rattle.solid.specs.Asks.{Permitted}
+use Rattle.solid.specs.Asks.{PermittedSolid}
 use Rattle.falls.specs.declared.Scene.{Scene}
 use Rattle.falls.specs.Scene.{probeOf, Ready}
 use Rattle.round.specs.Round.{Sound}
@@ -149,7 +149,7 @@ apex-is p frame hs hq = hq ∙ ap (λ (s : Vector). p ⊕ s) hs
 inside-is : (solid : Solid) (bytes : List ℕ) {a q : Vector} {b t : Bool} → q ≡ a → b ≡ inBox (box solid) q → b ≡ t → isInside (look solid bytes a) ≡ t
 inside-is solid bytes {q = q} e h g = rw (← e) (look-inside solid bytes q ∙ sym h ∙ g)
 
-module _ {solid : Solid} {bytes : List ℕ} (ok : Permitted solid bytes) {p : Vector} {frame R : ℕ} {a : Bool} (ha : a ≡ inBox (box solid) p) where
+module _ {solid : Solid} {bytes : List ℕ} (ok : PermittedSolid solid bytes) {p : Vector} {frame R : ℕ} {a : Bool} (ha : a ≡ inBox (box solid) p) where
   pub placed-outside : {r : Refused} → a ≡ false → r ≡ refusalOf 4 p 0 0 → PlacesJudged solid bytes p frame R (FitRefused r)
   placed-outside e f = record { gives = rw f (start-outside-box (probeOf (sceneOf solid p frame R) bytes) p (inside-is solid bytes refl ha e)); fits = tt }
 

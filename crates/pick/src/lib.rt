@@ -4,7 +4,7 @@ ghost use Prim.Native.Nat.{_≤_};
 ghost use Rattle.rules.specs.Walk.{sign, signs, unlessLevel, levelled, normal, laid};
 ghost use Rattle.rules.specs.Pick.{WedgePromise, StackPromise};
 ghost use Rattle.laws.specs.Ranges.{Bounded};
-ghost use Rattle.solid.specs.Asks.{Permitted};
+ghost use Rattle.solid.specs.Asks.{PermittedSolid};
 ghost use Rattle.laws.specs.Frames.{Signs};
 ghost use Rattle.round.specs.Round.{Sound};
 ghost use Rattle.pick.specs.Pick.{EndGives, PlacesJudged, InputsJudged, Picked};
@@ -120,7 +120,7 @@ fn end_walk(scene: Scene, level: Levels, m: Triangle, steps: u32, looks: u32) ->
 
 // p is judged before q is formed.
 fn judge_places(solid: Solid, bytes: &[u8], p: Vector, frame: u32, reach: u32) -> Fit
-    requires { ⌜ Permitted solid (now bytes) × (reach ≤ 256) ⌝ }
+    requires { ⌜ PermittedSolid solid (now bytes) × (reach ≤ 256) ⌝ }
     ensures { λ r. ⌜ PlacesJudged solid (now (bytes .entry)) p frame reach r ⌝ }
 {
     if solid::is_inside(solid, p) {
@@ -145,8 +145,8 @@ fn judge(solid: Solid, bytes: &[u8], p: Vector, frame: i32, reach: i32) -> Fit
     ensures { λ r. ⌜ InputsJudged solid (now (bytes .entry)) p frame reach r ⌝ }
 {
     let origin = Vector { x: 0, y: 0, z: 0 };
-    if solid::is_between(1, reach, 256) {
-        if solid::is_between(0, frame, 7) {
+    if range::is_between(1, reach, 256) {
+        if range::is_between(0, frame, 7) {
             if solid::is_permitted(solid, bytes) {
                 judge_places(solid, bytes, p, frame as u32, reach as u32)
             } else {

@@ -4,9 +4,9 @@ use native.Mathlib.Omega.{arith}
 use borrow.Author.Needs.{needs}
 use borrow.Fn.Kinds.{In}
 use borrow.Fn.PlainCycle.{Measures, is, falls, and}
+use Rattle.stack.proofs.slice_bytes.Reads as slice-bytes-reads
 use Rattle.p4_rows.proofs.copy_rows.Reads as copy-rows-reads
-use Rattle.p4_rows.proofs.slice_bytes.Reads as slice-bytes-reads
-use Rattle.p4_read.proofs.Reading.{part-short, part-done, part-full, part-not, part-refused, part-stack, rows-in, next-asked, next-before, copy-room, sides}
+use Rattle.p4_read.proofs.Reading.{part-short, part-done, part-full, part-not, part-refused, part-stack, rows-in, next-asked, next-before, copy-room}
 use Rattle.p4_read.proofs.find_rows.Reads as find-rows-reads
 use Rattle.p4_read.proofs.stack_of.Reads as stack-of-reads
 use Rattle.p4_read.proofs.read_images.Reads as read-images
@@ -64,7 +64,7 @@ pub +read-images-spec : {M : Type 1} → statement M
     (λ c. search needs)
     (λ c κs. let g = c .before .before .before .before .before .before in let b = g .before .before in let f = b .before .before in let k = f .before .before in
     let p = k .before .before .before .before .before .pre .1 in
-    (search (sides, arith), copy-room (p .0) (p .1) (k .before .before .if1 .left) (k .before .if3 .left) (k .find-rows .ensures) (f .found2 .given .1) (b .slice-bytes .ensures) _ (g .read-images .ensures) (c .before .before .rest2 .given .1) (g .read-images .kept .1 .1 .0) (omega arith)))
+    (search arith, copy-room (p .0) (p .1) (k .before .before .if1 .left) (k .before .if3 .left) (k .find-rows .ensures) (f .found2 .given .1) (b .slice-bytes .ensures) _ (g .read-images .ensures) (c .before .before .rest2 .given .1) (g .read-images .kept .1 .1 .0) (omega arith)))
     (λ c. search part-not)
     (λ c. search needs)
     (λ c. search part-refused)

@@ -12,4 +12,4 @@ is-permitted-spec =
     (λ c. search needs)
     (λ c κs. search needs)
     (λ c. rw (c .before .before .s .given .1) (c .is-permitted-wedge .ensures))
-    (λ c. rw (c .before .before .s2 .given .1) (c .is-permitted-stack .ensures)))
+    (λ c. rw (c .before .before .s2 .given .1) (c .is-permitted .ensures)))
