@@ -9,7 +9,7 @@ use lib.ListN.{length, take, drop, getD, length-drop, drop-of-length-le}
 use lib.Seq.{drop-cons, take-suc, getD-drop}
 use borrow.Author.Tests.{eq-eqb, ne-eqb}
 use Rattle.rules.specs.Session.{parts}
-use Rattle.line.specs.Reading.{stretch, Found}
+use Rattle.line.specs.Reading.{stretch, PartEnds}
 
 pub record Finding (s : List ℕ) (at mark i : ℕ) : Type 0 where
   pub from : at ≤ i
@@ -47,18 +47,18 @@ module _ {s : List ℕ} {at mark i : ℕ} (F : Finding s at mark i) where
     so-far = λ last. F .so-far last ∙ ap (parts last mark (stretch s at i)) (cut h) ∙ rw (ne-eqb (getD s i 0) mark n, parts) (ap (λ (b : List ℕ). parts last mark b (drop (i + 1) s)) (longer h));
   }
 
-  pub found-mark : i < length s → getD s i 0 ≡ mark → Found s at mark i
+  pub ends-at-mark : i < length s → getD s i 0 ≡ mark → PartEnds s at mark i
   unfolding parts
-  found-mark h e = record {
+  ends-at-mark h e = record {
     from = F .from;
     within = F .within;
     at-mark = λ l last. F .so-far last ∙ ap (parts last mark (stretch s at i)) (cut h) ∙ rw (eq-eqb (getD s i 0) mark e, parts);
     at-end = λ l. absurd (omega arith);
   }
 
-  pub found-end : length s ≤ i → Found s at mark i
+  pub ends-with-text : length s ≤ i → PartEnds s at mark i
   unfolding parts
-  found-end h = record {
+  ends-with-text h = record {
     from = F .from;
     within = F .within;
     at-mark = λ l. absurd (omega arith);

@@ -6,7 +6,7 @@ use borrow.Fn.Kinds.{In}
 use borrow.Fn.PlainCycle.{Measures, is, falls, and}
 use Rattle.p4_rows.proofs.copy_rows.Reads as copy-rows-reads
 use Rattle.p4_rows.proofs.slice_bytes.Reads as slice-bytes-reads
-use Rattle.p4_read.proofs.Reading.{part-short, part-done, part-full, part-not, part-refused, part-stack, rows-in, next-asked, next-before, copy-room, sides}
+use Rattle.p4_read.proofs.Reading.{part-short, part-done, part-full, part-not, part-refused, part-stack, rows-in, next-range, next-before, copy-room, sides}
 use Rattle.p4_read.proofs.find_rows.Reads as find-rows-reads
 use Rattle.p4_read.proofs.stack_of.Reads as stack-of-reads
 use Rattle.p4_read.proofs.read_images.Reads as read-images
@@ -59,7 +59,7 @@ pub +read-images-spec : {M : Type 1} → statement M
     (λ c. let k = c .before .before .before .before .before in let p = k .before .before .before .before .before .pre .1 .1 in
     omega (arith, p .few, p .small, k .before .if3 .left, c .before .slice-bytes .ensures .small))
     (λ c. search needs)
-    (λ c κs. search (next-asked, next-before, arith))
+    (λ c κs. search (next-range, next-before, arith))
     (λ c. search needs)
     (λ c. search needs)
     (λ c κs. let g = c .before .before .before .before .before .before in let b = g .before .before in let f = b .before .before in let k = f .before .before in

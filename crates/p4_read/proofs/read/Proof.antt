@@ -1,5 +1,5 @@
 use borrow.Author.Needs.{needs}
-use Rattle.p4_read.proofs.Reading.{first-asked, first-before, read-refused, read-all}
+use Rattle.p4_read.proofs.Reading.{first-range, first-before, read-refused, read-all}
 use Rattle.p4_read.proofs.read.Statement.{statement}
 use Rattle.p4_read.proofs.read.Tie as tie
 
@@ -10,7 +10,7 @@ read-spec =
     (λ c κs. search needs)
     (λ c. search needs)
     (λ c. search needs)
-    (λ c κs. search (first-asked, first-before))
+    (λ c κs. search (first-range, first-before))
     (λ c. search read-refused)
     (λ c. search needs)
     (λ c. search read-all))
