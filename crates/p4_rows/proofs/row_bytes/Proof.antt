@@ -1,3 +1,4 @@
+-- `p4_rows::row_bytes` meets its contract: by arithmetic.
 use borrow.Author.Needs.{needs}
 use Rattle.p4_rows.proofs.Clearing.{row-bytes}
 use Rattle.p4_rows.proofs.row_bytes.Statement.{statement}

@@ -1,3 +1,4 @@
+-- `p4_rows::slice_bytes` meets its contract: at most 256 rows of at most 32 bytes.
 use borrow.Author.Needs.{needs}
 use native.Mathlib.Omega.{arith}
 use Rattle.p4_rows.proofs.Clearing.{slice-small, slice-bytes}
