@@ -20,9 +20,7 @@ pub write-spec : {M : Type 1} → statement M
 write-spec =
     tie.close
     (tie.spec
-    (λ c κs. search needs)
-    (λ c κs. search needs)
-    (λ c κs. search needs)
+    (λ c κs. search needs) (λ c κs. search needs) (λ c κs. search needs)
     (λ c. let z = c .before in no-width _ (width z) (height z) (depth z) _ (c .if1 .taken))
     (λ c. let z = c .before .before in no-height _ (width z) (height z) (depth z) _ (c .if2 .taken))
     (λ c. let z = c .before .before .before in no-depth _ (width z) (height z) (depth z) _ (c .if3 .taken))
