@@ -1,4 +1,4 @@
--- `p4_header::read_comment` meets its contract: the loop keeps `Commenting`, and stops past a line end or with the input.
+-- `p4_header::read_comment` meets its contract: the loop keeps `Commenting` and stops at a line end or with the input.
 -- What is left of the input is the measure.
 use Prim.Native.Nat.{_-_}
 use native.Mathlib.Omega.{arith}

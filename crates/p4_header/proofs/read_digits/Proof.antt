@@ -1,4 +1,4 @@
--- `p4_header::read_digits` meets its contract: the loop keeps `Counting`, and stops at no digit or with the input.
+-- `p4_header::read_digits` meets its contract: the loop keeps `Counting` and stops at no digit or with the input.
 -- What is left of the input is the measure.
 use Prim.Native.Nat.{_-_}
 use native.Mathlib.Omega.{arith}

@@ -1,5 +1,5 @@
--- `p4_header::skip_mix` meets its contract: the loop keeps `Mixing`, inside a comment or not, and stops at any other byte
--- or with the input. What is left of the input is the measure.
+-- `p4_header::skip_mix` meets its contract: the loop keeps `Mixing`, inside a comment or not, and stops at any
+-- other byte or with the input. What is left of the input is the measure.
 use Prim.Native.Nat.{_-_}
 use native.Mathlib.Omega.{arith}
 use borrow.Author.Needs.{needs}

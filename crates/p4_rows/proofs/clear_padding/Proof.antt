@@ -1,4 +1,4 @@
--- `p4_rows::clear_padding` meets its contract: the loop keeps `Clearing`, a row at a time. The rows left are the measure.
+-- `p4_rows::clear_padding` meets its contract: the loop keeps `Clearing`, a row at a time. The measure: the rows left.
 use native.Mathlib.Omega.{arith}
 use borrow.Author.Needs.{needs}
 use Rattle.p4_rows.proofs.Clearing.{Clearing, clearing-start, clearing-room, clearing-next, clearing-end}

@@ -1,4 +1,4 @@
--- `p4_rows::copy_bytes` meets its contract: the loop keeps `Copying`, a byte at a time. The bytes left are the measure.
+-- `p4_rows::copy_bytes` meets its contract: the loop keeps `Copying`, a byte at a time. The measure: the bytes left.
 use Prim.Native.Nat.{_-_}
 use native.Mathlib.Omega.{arith}
 use Rattle.p4_rows.proofs.Copying.{Copying, copying-start, copying-next, copying-end}

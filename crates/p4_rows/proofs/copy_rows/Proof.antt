@@ -1,4 +1,4 @@
--- `p4_rows::copy_rows` meets its contract: a plain copy whose padding is cleared is the rows, and whole bytes have none.
+-- `p4_rows::copy_rows` meets its contract: a plain copy whose padding is cleared is the rows, whole bytes have none.
 use borrow.Author.Needs.{needs}
 use Rattle.p4_rows.proofs.Clearing.{rows-whole, rows-cleared, clear-room}
 use Rattle.p4_rows.proofs.copy_rows.Statement.{statement}
