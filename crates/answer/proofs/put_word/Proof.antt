@@ -8,8 +8,5 @@ pub put-word-spec : {M : Type 1} → statement M
 put-word-spec =
     tie.close
     (tie.spec
-    (λ c. search needs)
-    (λ c κs. search needs)
-    (λ c κs. search word-room)
-    (λ c. search needs)
-    (λ c. search wrote-word))
+    (λ c. search needs) (λ c κs. search needs) (λ c κs. search word-room)
+    (λ c. search needs) (λ c. search wrote-word))

@@ -8,9 +8,5 @@ pub all-in-range-spec : {M : Type 1} → statement M
 all-in-range-spec =
     tie.close
     (tie.spec
-    (λ c κs. search needs)
-    (λ c κs. search needs)
-    (λ c κs. search needs)
-    (λ c. search third-tells)
-    (λ c. search second-out)
-    (λ c. search first-out))
+    (λ c κs. search needs) (λ c κs. search needs) (λ c κs. search needs) (λ c. search third-tells)
+    (λ c. search second-out) (λ c. search first-out))

@@ -19,9 +19,5 @@ find-spec =
     Inv-loop
     μ-loop
     (λ c. search finding-starts)
-    (λ c. omega arith)
-    (λ c. search ends-at-mark)
-    (λ c. omega arith)
-    (λ c. omega arith)
-    (λ c. search finding-more)
-    (λ c. search ends-with-text))
+    (λ c. omega arith) (λ c. search ends-at-mark)
+    (λ c. omega arith) (λ c. omega arith) (λ c. search finding-more) (λ c. search ends-with-text))

@@ -46,7 +46,8 @@ module _ (t : ℕ) where
       let f = c .before .before in
       let k = f .before .before in
       let p = k .before .before .before .before .before .pre .1 in
-      let r = rows-in (p .0) (p .1) (k .before .before .if1 .left) (k .before .if3 .left) (k .find-rows .ensures) (f .found2 .given .1) (c .slice-bytes .ensures) in
+      let r = rows-in (p .0) (p .1) (k .before .before .if1 .left) (k .before .if3 .left) (k .find-rows .ensures)
+      (f .found2 .given .1) (c .slice-bytes .ensures) in
       omega arith
 
   -- so is the place behind them in the buffer, as 256 images take 2,097,152 bytes at most
@@ -68,8 +69,9 @@ module _ (t : ℕ) where
       let k = f .before .before in
       let p = k .before .before .before .before .before .pre .1 in (
         search (sides, arith),
-        copy-room (p .0) (p .1) (k .before .before .if1 .left) (k .before .if3 .left) (k .find-rows .ensures) (f .found2 .given .1) (b .slice-bytes .ensures) _
-            (g .read-images .ensures) (c .before .before .rest2 .given .1) (g .read-images .kept .1 .1 .0) (omega arith),
+        copy-room (p .0) (p .1) (k .before .before .if1 .left) (k .before .if3 .left) (k .find-rows .ensures)
+            (f .found2 .given .1) (b .slice-bytes .ensures) _ (g .read-images .ensures)
+            (c .before .before .rest2 .given .1) (g .read-images .kept .1 .1 .0) (omega arith),
       )
 
 pub +read-images-spec : {M : Type 1} → statement M

@@ -8,5 +8,4 @@ pub pick-for-spec : {M : Type 1} → statement M
 pick-for-spec =
     tie.close
     (tie.spec
-    (λ c κs. search needs)
-    (λ c. search answers))
+    (λ c κs. search needs) (λ c. search answers))
