@@ -1,5 +1,5 @@
 -- Each way out of `lit` and of `display_normal`.
-use mathlib.Core.Path.{_≡_, refl, sym, ap, subst, subst₃, _∙_}
+use mathlib.Core.Path.{_≡_, sym, ap, subst, subst₃, _∙_}
 use mathlib.Core.Bool.{Bool, true, false, not, _&&_}
 use mathlib.Core.Logic.{_≢_}
 use Prim.Native.Nat.{ℕ}
@@ -10,6 +10,7 @@ use borrow.Author.Tests.{eq-eqb, ne-eqb}
 use mir.Syntax.{w32}
 use mir.Val.{SFits}
 use mir.Facts.{toZ-ofZ}
+use Rattle.integers.specs.Joined.{not-second}
 use Rattle.rules.specs.declared.Light.{Light}
 use Rattle.rules.specs.declared.Display.{Display}
 use Rattle.rules.specs.declared.Display.the-variants.{Lit, Unlit}
@@ -37,10 +38,6 @@ module _ {x y z : ℤ} (p : SFits w32 x) (q : SFits w32 y) (r : SFits w32 z) whe
   pub promise-back : {d : Display} → DisplayPromise (back x) (back y) (back z) d → DisplayPromise x y z d
   promise-back {d} P = subst₃ (λ (a b c : ℤ). DisplayPromise a b c d) (toZ-ofZ p) (toZ-ofZ q) (toZ-ofZ r) P
 
-out-of-range : (a b : Bool) → b ≡ false → (a && b) ≡ false
-out-of-range true b e = e
-out-of-range false b e = refl
-
 permitted : (x y z : ℤ) {s : ℕ} → s ≡ squares x y z → s ≢ 0 → (inRange x && (inRange y && inRange z)) ≡ true → permittedNormal x y z ≡ true
 unfolding permittedNormal
 permitted x y z e some h = ap (λ (b : Bool). not b && (inRange x && (inRange y && inRange z))) (ne-eqb (squares x y z) 0 (λ f. some (e ∙ f))) ∙ h
@@ -57,7 +54,7 @@ module _ {x y z : ℤ} {s : ℕ} (e : s ≡ squares x y z) where
   module _ {t : Bool} (k : t ≡ (inRange x && (inRange y && inRange z))) where
     pub dark-outside : t ≡ false → DisplayPromise x y z (Unlit 30)
     unfolding permittedNormal
-    dark-outside h = dark (out-of-range (not (eqb (squares x y z) 0)) _ (sym k ∙ h))
+    dark-outside h = dark (not-second (not (eqb (squares x y z) 0)) (sym k ∙ h))
 
     module _ (some : s ≢ 0) (h : t ≡ true) where
       pub lit-asks : Parts s x y z

@@ -1,12 +1,13 @@
 -- Three numbers that are permitted have sizes up to 1023, so their squares are small parts of a sum that is not zero.
 use mathlib.Core.Path.{_≡_, refl, sym, _∙_}
-use mathlib.Core.Bool.{Bool, true, false, not, _&&_, and-true}
+use mathlib.Core.Bool.{true, not, _&&_, and-true}
 use Prim.Native.Nat.{_≤_}
 use native.Mathlib.Nat.{mul-le-mul}
 use native.Mathlib.Omega.{arith}
 use lib.Dec.{eqb, leb}
 use lib.IntN.{ℤ, pos, negsuc, natAbs}
 use borrow.Author.Tests.{leb-true, eqb-false, not-true}
+use Rattle.integers.specs.Joined.{first-of, second-of}
 use Rattle.rules.specs.Solids.{between}
 use Rattle.rules.specs.Display.{square, squares, permittedNormal}
 use Rattle.display.specs.Parts.{inRange, Part, Parts}
@@ -15,15 +16,6 @@ range-small : (n : ℤ) → inRange n ≡ true → natAbs n ≤ 1023
 unfolding between
 range-small (pos k) e = leb-true k 1023 e
 range-small (negsuc k) e = let h = leb-true k 1022 (sym (and-true (leb k 1022)) ∙ e) in omega arith
-
-first-of : (a b : Bool) → (a && b) ≡ true → a ≡ true
-first-of true b e = refl
-first-of false b e = e
-
-second-of : (a b : Bool) → (a && b) ≡ true → b ≡ true
-second-of true b e = e
-second-of false true e = refl
-second-of false false e = e
 
 pub permitted-parts : (x y z : ℤ) → permittedNormal x y z ≡ true → Parts (squares x y z) x y z
 unfolding permittedNormal

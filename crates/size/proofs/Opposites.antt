@@ -1,7 +1,6 @@
 -- What a cast to an unsigned number asks and gives: a number that is not negative, of a size that fits. The bits that stand for it are read back first.
-use mathlib.Core.Path.{_≡_, refl, sym, ap, subst, _∙_}
+use mathlib.Core.Path.{_≡_, sym, ap, subst, _∙_}
 use mathlib.Core.Bool.{true, false}
-use Prim.Native.Nat.{zero, suc}
 use native.Mathlib.Omega.{arith}
 use lib.Dec.{T}
 use lib.IntN.{ℤ, pos, negsuc, negℤ, natAbs, _-ℤ_}
@@ -11,14 +10,10 @@ use mir.Val.{Fits, SFits, toZ, ofZ}
 use mir.Facts.{fits-natAbs, toZ-ofZ}
 use Rattle.integers.specs.Machine.{machine, typed, value, without-bits, lt-yes, lt-no}
 use Rattle.integers.specs.Order.{parts}
+use Rattle.integers.specs.Sizes.{opposite-size}
 
 abbrev Unsigned : ℤ → Type 0
 Unsigned x = T (nonNeg x) × Fits w32 (natAbs x)
-
-opposite-size : (z : ℤ) → natAbs (negℤ z) ≡ natAbs z
-opposite-size (pos zero) = refl
-opposite-size (pos (suc n)) = refl
-opposite-size (negsuc n) = refl
 
 opposite-positive : (z : ℤ) → ltZ z (pos 0) ≡ true → T (nonNeg (negℤ z))
 opposite-positive (pos n) e = let h = lt-yes (pos n) (pos 0) e in absurd (omega (arith, parts))
