@@ -1,12 +1,6 @@
 -- Tests joined by `&&`: a joined test that passed, or failed by one of the two.
-use mathlib.Core.Path.{_≡_, refl, ap, _∙_}
+use mathlib.Core.Path.{_≡_, refl}
 use mathlib.Core.Bool.{Bool, true, false, _&&_}
-
-pub both : {a b : Bool} → a ≡ true → b ≡ true → (a && b) ≡ true
-both {b} p q = ap (λ (x : Bool). x && b) p ∙ q
-
-pub not-first : {a : Bool} (b : Bool) → a ≡ false → (a && b) ≡ false
-not-first b p = ap (λ (x : Bool). x && b) p
 
 pub not-second : (a : Bool) {b : Bool} → b ≡ false → (a && b) ≡ false
 not-second true q = q
