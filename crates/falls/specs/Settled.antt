@@ -1,4 +1,5 @@
--- What is ensured of a question settles the code's answer: the question gives one tally, and an answer is made again of what it tells.
+-- What `ask_falls` ensures settles its answer, and so for every question that is told as a tally:
+-- the question gives one tally, and an answer is made again of what it tells.
 use mathlib.Core.Path.{_≡_, refl, sym, ap, _∙_}
 use mathlib.Core.Bool.{Bool, true, false}
 use Prim.Native.Nat.{ℕ}

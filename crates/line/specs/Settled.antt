@@ -1,5 +1,5 @@
--- What `find` ensures settles its answer: the first part of the text from `at` on ends there, and its length is the end's distance.
--- `read_line` has an equation.
+-- What `find` ensures settles its answer: the first part of the text from `at` on ends there,
+-- and that part is as long as its end is distant. `read_line` has an equation.
 use mathlib.Core.Path.{_≡_, refl, sym, ap, _∙_}
 use mathlib.Core.Bool.{Bool, true, false}
 use mathlib.Core.List.{List, [], _∷_}
