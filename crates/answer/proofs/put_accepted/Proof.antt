@@ -1,4 +1,4 @@
--- "N", normal, steps, looks.
+-- `answer::put_accepted` meets its contract: "N", the normal, steps and looks, written in a row, are one write.
 use borrow.Author.Needs.{needs}
 use Rattle.answer.proofs.Words.{wrote-accepted}
 use Rattle.answer.proofs.put_accepted.Statement.{statement}

@@ -1,4 +1,4 @@
--- Either case of the answer.
+-- `answer::put_answer` meets its contract: by the case of the answer, accepted or refused.
 use borrow.Author.Needs.{needs}
 use Rattle.answer.proofs.Words.{told-accepted, told-refused}
 use Rattle.answer.proofs.put_answer.Statement.{statement}

@@ -1,4 +1,4 @@
--- Two counts and LF.
+-- `answer::put_counts` meets its contract: two counts and LF, written in a row, are one write.
 use borrow.Author.Needs.{needs}
 use Rattle.answer.proofs.Words.{wrote-counts}
 use Rattle.answer.proofs.put_counts.Statement.{statement}

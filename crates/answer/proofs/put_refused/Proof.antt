@@ -1,4 +1,4 @@
--- "R", number, place, steps, looks.
+-- `answer::put_refused` meets its contract: "R", number, place, steps and looks, written in a row, are one write.
 use borrow.Author.Needs.{needs}
 use Rattle.answer.proofs.Words.{wrote-refused}
 use Rattle.answer.proofs.put_refused.Statement.{statement}

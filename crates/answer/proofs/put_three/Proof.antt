@@ -1,4 +1,4 @@
--- Three words.
+-- `answer::put_three` meets its contract: three words, written in a row, are one write.
 use borrow.Author.Needs.{needs}
 use Rattle.answer.proofs.Words.{wrote-three}
 use Rattle.answer.proofs.put_three.Statement.{statement}

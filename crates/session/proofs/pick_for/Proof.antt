@@ -1,4 +1,4 @@
--- The pick that a question asks for.
+-- `session::pick_for` meets its contract: the parts of a question are read back from their bits, and picked.
 use borrow.Author.Needs.{needs}
 use Rattle.session.proofs.Replies.{answers}
 use Rattle.session.proofs.pick_for.Statement.{statement}
