@@ -17,25 +17,25 @@ use Rattle.rules.specs.declared.Display.the-variants.{Lit, Unlit}
 use Rattle.rules.specs.Display.{squares, component, permittedNormal, light, display, DisplayPromise}
 use Rattle.display.specs.Parts.{inRange, Part, Shown, Parts}
 use Rattle.display.specs.Permitted.{permitted-parts}
-use Rattle.display.proofs.Bits.{back}
+use Rattle.display.proofs.Bits.{readBack}
 
 abbrev light-of : Float → Float → Float → Light
 light-of a b c = record { x = a; y = b; z = c }
 
 -- ---- `lit`
-pub part-back : {s : ℕ} {n : ℤ} → SFits w32 n → Part s n → Part s (back n)
+pub part-back : {s : ℕ} {n : ℤ} → SFits w32 n → Part s n → Part s (readBack n)
 part-back {s} b P = subst (Part s) (sym (toZ-ofZ b)) P
 
 module _ {x y z : ℤ} (p : SFits w32 x) (q : SFits w32 y) (r : SFits w32 z) where
-  pub lit-is : {s : ℕ} {a b c : Float} → Parts s x y z → Shown s (back x) a → Shown s (back y) b → Shown s (back z) c → light-of a b c ≡ light x y z
+  pub lit-is : {s : ℕ} {a b c : Float} → Parts s x y z → Shown s (readBack x) a → Shown s (readBack y) b → Shown s (readBack z) c → light-of a b c ≡ light x y z
   unfolding light
   lit-is {s} P A B C = λ i. light-of (of p A i) (of q B i) (of r C i)
     where
-      of : {n : ℤ} {f : Float} → SFits w32 n → Shown s (back n) f → f ≡ component (squares x y z) n
+      of : {n : ℤ} {f : Float} → SFits w32 n → Shown s (readBack n) f → f ≡ component (squares x y z) n
       of {n} fits F = F .is ∙ ap (component s) (toZ-ofZ fits) ∙ ap (λ (S : ℕ). component S n) (P .is)
 
   -- ---- `display_normal`: what holds of the bits holds of the numbers
-  pub promise-back : {d : Display} → DisplayPromise (back x) (back y) (back z) d → DisplayPromise x y z d
+  pub promise-back : {d : Display} → DisplayPromise (readBack x) (readBack y) (readBack z) d → DisplayPromise x y z d
   promise-back {d} P = subst₃ (λ (a b c : ℤ). DisplayPromise a b c d) (toZ-ofZ p) (toZ-ofZ q) (toZ-ofZ r) P
 
 permitted : (x y z : ℤ) {s : ℕ} → s ≡ squares x y z → s ≢ 0 → (inRange x && (inRange y && inRange z)) ≡ true → permittedNormal x y z ≡ true

@@ -3,5 +3,5 @@ use lib.IntN.{ℤ}
 use mir.Syntax.{w32}
 use mir.Val.{toZ, ofZ}
 
-abbrev pub back : ℤ → ℤ
-back n = toZ w32 (ofZ w32 n)
+abbrev pub readBack : ℤ → ℤ
+readBack n = toZ w32 (ofZ w32 n)

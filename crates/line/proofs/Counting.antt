@@ -1,26 +1,23 @@
 -- The loop of `read_digits`: the digits left say the number behind those that were read, and i digits say less than 10^i.
 use mathlib.Core.Path.{_≡_, refl, sym, ap, _∙_}
 use mathlib.Core.Bool.{Bool, true, false, _&&_}
-use mathlib.Core.List.{List, _∷_}
+use mathlib.Core.List.{List}
 use Prim.Native.Nat.{ℕ, _+_, _-_, _*_, _^_, _≤_, _<_}
 use native.Mathlib.Nat.{pow-suc, pow-le-pow-right}
 use native.Mathlib.Numerals.{add-one}
 use native.Mathlib.Omega.{arith}
 use lib.Dec.{leb, lit<}
 use lib.ListN.{length, drop, getD, drop-of-length-le}
-use lib.Seq.{drop-cons}
 use mir.Syntax.{w64}
 use mir.Val.{Fits}
-use borrow.Author.Tests.{le-leb, lt-leb, leb-true}
-use Rattle.integers.specs.Tests.{not-second, first-of, second-of}
+use borrow.Author.Tests.{le-leb, lt-leb}
+use Rattle.integers.specs.Tests.{not-second}
 use Rattle.rules.specs.Decimals.{isDigit, areDigits, value}
 use Rattle.rules.specs.Session.{fewDigits}
+use Rattle.text.specs.Decimals.{digit-range}
 use Rattle.line.specs.declared.Digits.the-variants.{Value, NoDigits}
 use Rattle.line.specs.Reading.{digitsOf, DigitsRead}
-
-digit-range : (b : ℕ) → isDigit b ≡ true → (48 ≤ b) × (b ≤ 57)
-unfolding isDigit
-digit-range b e = (leb-true 48 b (first-of (leb 48 b) (leb b 57) e), leb-true b 57 (second-of (leb 48 b) (leb b 57) e))
+use Rattle.line.proofs.Finding.{drop-here}
 
 -- ---- ways out that give no digits
 no-digits : (part : List ℕ) → fewDigits part ≡ false → DigitsRead part NoDigits
@@ -46,9 +43,6 @@ pub reading-starts : {part : List ℕ} → 1 ≤ length part → length part ≤
 reading-starts h k = record { some = h; few = k; count = omega arith; small = lit< tt; says = refl; digits = refl }
 
 module _ {part : List ℕ} {i v : ℕ} (R : Reading part i v) where
-  cut : i < length part → drop i part ≡ getD part i 0 ∷ drop (i + 1) part
-  cut h = drop-cons part i 0 h ∙ ap (λ (k : ℕ). getD part i 0 ∷ drop k part) (sym (add-one i))
-
   under : v < 10000000000
   under =
       let c = R .count in
@@ -88,13 +82,13 @@ module _ {part : List ℕ} {i v : ℕ} (R : Reading part i v) where
           let s = R .small in
           let p = pow-suc 10 i in
           rw (add-one i) (omega arith);
-      says = R .says ∙ ap (value v) (cut h);
-      digits = R .digits ∙ ap areDigits (cut h) ∙ ap (λ (t : Bool). t && areDigits (drop (i + 1) part)) (sym e ∙ y);
+      says = R .says ∙ ap (value v) (drop-here part i h);
+      digits = R .digits ∙ ap areDigits (drop-here part i h) ∙ ap (λ (t : Bool). t && areDigits (drop (i + 1) part)) (sym e ∙ y);
     }
 
     pub no-digit : r ≡ false → DigitsRead part NoDigits
     unfolding fewDigits areDigits
-    no-digit y = no-digits part (not-second (leb 1 (length part)) (not-second (leb (length part) 10) (R .digits ∙ ap areDigits (cut h) ∙ ap (λ (t : Bool). t && areDigits (drop (i + 1) part)) (sym e ∙ y))))
+    no-digit y = no-digits part (not-second (leb 1 (length part)) (not-second (leb (length part) 10) (R .digits ∙ ap areDigits (drop-here part i h) ∙ ap (λ (t : Bool). t && areDigits (drop (i + 1) part)) (sym e ∙ y))))
 
   pub all-read : length part ≤ i → DigitsRead part (Value v)
   unfolding fewDigits areDigits value

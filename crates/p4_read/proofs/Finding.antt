@@ -15,21 +15,21 @@ use Rattle.stack.specs.Bytes.{SliceBytes}
 use Rattle.p4_header.specs.declared.PlaceRead.the-variants.{At, NotAt}
 use Rattle.p4_header.specs.declared.HeaderRead.{HeaderRead}
 use Rattle.p4_header.specs.declared.HeaderRead.the-variants.{Sizes, NoSizes}
-use Rattle.p4_header.specs.Reads.{header, HeaderIs}
+use Rattle.p4_header.specs.Reads.{judgedHeader, HeaderIs}
 use Rattle.p4_read.specs.Images.{ImageIs}
 
 module _ (w h : ℕ) {s : List ℕ} {at : ℕ} {r : HeaderRead} (H : HeaderIs s at r) where
   pub rows-none : {n p : ℕ} → r ≡ NoSizes n p → ImageIs w h s at (NotAt n p)
   unfolding imageAt
-  rows-none e = record { is = sym (off _ (sym (H .is) ∙ ap header e)) }
+  rows-none e = record { is = sym (off _ (sym (H .is) ∙ ap judgedHeader e)) }
 
   module _ {a b i : ℕ} (e : r ≡ Sizes a b i) where
     pub rows-inside : i ≤ length s
-    rows-inside = header-in s at (sym (H .is) ∙ ap header e) .inside
+    rows-inside = header-in s at (sym (H .is) ∙ ap judgedHeader e) .inside
 
     sized : imageAt w h s at ≡ (judge (eqb a w && eqb b h) 24 at >>= λ _. judge (leb (i + sliceBytes w h) (length s)) 25 (length s) >>= λ _. good i)
     unfolding imageAt
-    sized = on _ (sym (H .is) ∙ ap header e)
+    sized = on _ (sym (H .is) ∙ ap judgedHeader e)
 
     pub rows-wide : (a ≡ w → ⊥) → ImageIs w h s at (NotAt 24 at)
     rows-wide n = record { is = sym (sized ∙ fail 24 at _ (not-first _ (ne-eqb a w n))) }

@@ -10,12 +10,12 @@ use Rattle.rules.specs.Solids.{sliceBytes}
 use Rattle.rules.specs.P4.{good, wrong, sizes, imageAt, imagesAt}
 use Rattle.stack.specs.Bytes.{SliceSides}
 use Rattle.p4_header.specs.declared.PlaceRead.{PlaceRead}
-use Rattle.p4_header.specs.Reads.{place}
+use Rattle.p4_header.specs.Reads.{judgedPlace}
 
 pub record ImageIs (width height : ℕ) (s : List ℕ) (at : ℕ) (r : PlaceRead) : Type 0 where
-  pub is : place r ≡ imageAt width height s at
+  pub is : judgedPlace r ≡ imageAt width height s at
 
-pub record Asked (s : List ℕ) (at width height : ℕ) : Type 0 where
+pub record ImageRange (s : List ℕ) (at width height : ℕ) : Type 0 where
   pub inside : at ≤ length s
   pub sides : SliceSides width height
 

@@ -7,7 +7,7 @@ ghost use mathlib.Core.Path.{_≡_};
 ghost use Prim.Native.Nat.{_≤_};
 ghost use Rattle.rules.specs.P4.{sizes, ReadPromise};
 ghost use Rattle.stack.specs.Bytes.{SliceSides};
-ghost use Rattle.p4_read.specs.Images.{ImageIs, Asked, Before, Part};
+ghost use Rattle.p4_read.specs.Images.{ImageIs, ImageRange, Before, Part};
 
 fn stack_of(width: usize, height: usize, depth: usize) -> Stack
     requires { ⌜ (SliceSides width height) × (depth ≤ 256) ⌝ }
@@ -22,7 +22,7 @@ fn stack_of(width: usize, height: usize, depth: usize) -> Stack
 
 // The place of the rows of the image at a place, if it has this size.
 fn find_rows(src: &[u8], at: usize, width: usize, height: usize) -> PlaceRead
-    requires { ⌜ Asked (now src) at width height ⌝ }
+    requires { ⌜ ImageRange (now src) at width height ⌝ }
     ensures { λ r. ⌜ ImageIs width height (now (src .entry)) at r ⌝ }
 {
     let header = p4_header::read_header(src, at);
@@ -55,7 +55,7 @@ fn read_images(
     width: usize,
     height: usize,
 ) -> Reading
-    requires { ⌜ (Asked (now src) at width height) × (Before o z width height) ⌝ }
+    requires { ⌜ (ImageRange (now src) at width height) × (Before o z width height) ⌝ }
     ensures { λ r. ⌜ Part (now (src .entry)) width height z at o (now (out .entry)) (now (out .exit)) r ⌝ }
 {
     if at == src.len() {

@@ -31,46 +31,46 @@ data Case : Type 0 where
   prints corners reads : String → Case
   shows : ℤ → ℤ → ℤ → Case
 
-data Told : Type 0 where
-  text : List ℕ → Told
-  vectors : Triangle → Told
-  judged : Judged Contents → Told
-  shown : Display → Told
-  none : Told
+data Result : Type 0 where
+  text : List ℕ → Result
+  vectors : Triangle → Result
+  judged : Judged Contents → Result
+  shown : Display → Result
+  none : Result
 
 -- the bytes of a text
 bytes : String → List ℕ
 bytes nothing = []
 bytes (c then more) = code c ∷ bytes more
 
-vectorsOf : Pick → Told
+vectorsOf : Pick → Result
 vectorsOf (Accepted a) = vectors (a .triangle)
 vectorsOf (Refused r) = none
 
-cornersOf : Line → Told
+cornersOf : Line → Result
 cornersOf (Asks q) = vectorsOf (pickOf (IsWedge (q .wedge)) [] (q .p) (q .frame) (q .reach))
 cornersOf OtherForm = none
 
-run : Case → Told
+run : Case → Result
 run (prints input) = text (session (bytes input))
 run (corners line) = cornersOf (question (bytes line))
 run (reads input) = judged (contents (bytes input))
 run (shows x y z) = shown (display x y z)
 
 -- what the list expects: a text, the vectors (1,0,0), (-1,1,0), (-2,-1,1), a stack's sizes and rows or a refusal, or sizes over 32768
-says : String → Told
+says : String → Result
 says output = text (bytes output)
 
-ends : Told
+ends : Result
 ends = vectors (triangle (vector (pos 1) (pos 0) (pos 0)) (vector (negsuc 0) (pos 1) (pos 0)) (vector (negsuc 1) (negsuc 0) (pos 1)))
 
-holds : ℕ → ℕ → ℕ → List ℕ → Told
+holds : ℕ → ℕ → ℕ → List ℕ → Result
 holds width height depth rows = judged (good (record { stack = sizes width height depth; bytes = rows }))
 
-refuses : ℕ → ℕ → Told
+refuses : ℕ → ℕ → Result
 refuses number place = judged (wrong number place)
 
-over : ℕ → ℕ → ℕ → Told
+over : ℕ → ℕ → ℕ → Result
 over a b c = shown (Lit record { x = rounded binary32 false a 32768; y = rounded binary32 false b 32768; z = rounded binary32 false c 32768 })
 
 worked-cases :

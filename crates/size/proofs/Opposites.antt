@@ -8,7 +8,7 @@ use lib.Signed.{nonNeg, yes-nonNeg, ltZ}
 use mir.Syntax.{w32, w64}
 use mir.Val.{Fits, SFits, toZ, ofZ}
 use mir.Facts.{fits-natAbs, toZ-ofZ}
-use Rattle.integers.specs.Machine.{machine, typed, value, told, lt-yes, lt-no}
+use Rattle.integers.specs.Machine.{machine, typed, value, without-bits, lt-yes, lt-no}
 use Rattle.integers.specs.Order.{parts}
 use Rattle.integers.specs.Sizes.{opposite-size}
 
@@ -33,10 +33,10 @@ module _ {z : ℤ} (s : SFits w32 z) where
   positive-size = ap natAbs (toZ-ofZ s)
 
   pub positive-fits : ltZ bits (pos 0) ≡ false → Unsigned bits
-  positive-fits e = subst Unsigned (sym (toZ-ofZ s)) (yes-nonNeg (lt-no z (pos 0) (told e (search (machine, typed) depth 30 fits 5000) tt)), fits-natAbs tt s)
+  positive-fits e = subst Unsigned (sym (toZ-ofZ s)) (yes-nonNeg (lt-no z (pos 0) (without-bits e (search (machine, typed) depth 30 fits 5000) tt)), fits-natAbs tt s)
 
   pub negative-size : natAbs opposite ≡ natAbs z
   negative-size = ap natAbs opposite-is ∙ opposite-size z
 
   pub negative-fits : ltZ bits (pos 0) ≡ true → Unsigned opposite
-  negative-fits e = subst Unsigned (sym opposite-is) (opposite-positive z (told e (search (machine, typed) depth 30 fits 5000) tt), subst (Fits w32) (sym (opposite-size z)) (fits-natAbs tt s))
+  negative-fits e = subst Unsigned (sym opposite-is) (opposite-positive z (without-bits e (search (machine, typed) depth 30 fits 5000) tt), subst (Fits w32) (sym (opposite-size z)) (fits-natAbs tt s))

@@ -1,3 +1,4 @@
+-- `p4_write::write_stack` meets its contract: too few bytes, too little room, or all slices. No number here overflows.
 use native.Mathlib.Omega.{arith}
 use borrow.Author.Needs.{needs}
 use Rattle.p4_write.proofs.Writing.{slice-sides, need-small, stack-short, slices-room, stack-written}
@@ -9,13 +10,8 @@ write-stack-spec =
     tie.close
     (tie.spec
     (λ c κs. search slice-sides)
-    (λ c κs. search needs)
-    (λ c κs. search needs)
-    (λ c. search needs)
-    (λ c. search needs)
-    (λ c. search needs)
+    (λ c κs. search needs) (λ c κs. search needs) (λ c. search needs) (λ c. search needs) (λ c. search needs)
     (λ c. let z = c .before .before in omega (arith, need-small (z .before .before .before .pre) (z .slice-bytes .ensures) (c .before .figures .ensures) (c .figures2 .ensures)))
     (λ c. search stack-short)
     (λ c κs. let f = c .before .before in let z = f .before .before in slices-room (z .before .before .before .pre) (z .slice-bytes .ensures) (f .before .figures .ensures) (f .figures2 .ensures) (c .before .if1 .left))
-    (λ c. search needs)
-    (λ c. search stack-written))
+    (λ c. search needs) (λ c. search stack-written))

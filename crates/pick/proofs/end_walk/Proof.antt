@@ -24,9 +24,5 @@ end-walk-spec =
     (tie.spec
     (λ c κs. search needs)
     (λ c κs. whole-fits (c .before .before .before .pre .0) (c .normal-of .ensures))
-    size-requires
-    lay-requires
-    lay-triangle-requires
-    (λ c κs. search needs)
-    (λ c. search answering)
-    (λ c. search answering))
+    size-requires lay-requires lay-triangle-requires
+    (λ c κs. search needs) (λ c. search answering) (λ c. search answering))

@@ -49,16 +49,8 @@ pub judge-spec : {M : Type 1} → statement M
 judge-spec =
     tie.close
     (tie.spec
-    (λ c κs. search needs)
-    (λ c κs. search needs)
-    (λ c κs. search needs)
+    (λ c κs. search needs) (λ c κs. search needs) (λ c κs. search needs)
     (λ c. let d = c .before .before in range-fits (range _ _ _ (sym (d .before .is-between2 .ensures) ∙ d .if2 .taken)) (lit≤ tt))
     (λ c. let d = c .before .before .before .before in range-fits (range _ _ _ (sym (d .before .is-between .ensures) ∙ d .if1 .taken)) (lit≤ tt))
     judge-places-requires
-    (λ c κs. search needs)
-    (λ c κs. search needs)
-    (λ c κs. search needs)
-    returns
-    returns-2
-    returns-3
-    returns-4)
+    (λ c κs. search needs) (λ c κs. search needs) (λ c κs. search needs) returns returns-2 returns-3 returns-4)

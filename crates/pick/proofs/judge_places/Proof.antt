@@ -19,12 +19,6 @@ pub judge-places-spec : {M : Type 1} → statement M
 judge-places-spec =
     tie.close
     (tie.spec
-    (λ c κs. search needs)
-    (λ c κs. search needs)
-    add-requires
-    (λ c κs. search needs)
-    (λ c κs. search needs)
-    (λ c κs. search needs)
-    (λ c. search answering)
-    (λ c. search answering)
-    (λ c. search answering))
+    (λ c κs. search needs) (λ c κs. search needs) add-requires
+    (λ c κs. search needs) (λ c κs. search needs) (λ c κs. search needs) (λ c. search answering)
+    (λ c. search answering) (λ c. search answering))

@@ -19,17 +19,9 @@ pub pick-solid-spec : {M : Type 1} → statement M
 pick-solid-spec =
     tie.close
     (tie.spec
-    (λ c κs. search needs)
-    (λ c. search needs)
-    (λ c. search needs)
-    (λ c κs. search granted)
-    (λ c. search needs)
-    (λ c. search needs)
+    (λ c κs. search needs) (λ c. search needs) (λ c. search needs) (λ c κs. search granted)
+    (λ c. search needs) (λ c. search needs)
     (λ c κs. (search granted, search granted))
-    (λ c. search needs)
-    (λ c. search needs)
+    (λ c. search needs) (λ c. search needs)
     (λ c κs. (search granted, search granted))
-    (λ c. search picking)
-    (λ c. search picking)
-    (λ c. search picking)
-    returns-4)
+    (λ c. search picking) (λ c. search picking) (λ c. search picking) returns-4)

@@ -17,10 +17,5 @@ pub ask-pair-spec : {M : Type 1} → statement M
 ask-pair-spec =
     tie.close
     (tie.spec
-    (λ c. search needs)
-    (λ c. search needs)
-    (λ c κs. search needs)
-    ask-way-requires
-    (λ c. search pairing)
-    (λ c. search pairing)
-    (λ c. search pairing))
+    (λ c. search needs) (λ c. search needs) (λ c κs. search needs) ask-way-requires (λ c. search pairing)
+    (λ c. search pairing) (λ c. search pairing))

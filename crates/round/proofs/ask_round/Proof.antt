@@ -23,11 +23,6 @@ ask-round-spec =
     (tie.spec
     Inv-loop
     μ-loop
-    (λ c. search asking)
-    ask-pair-requires
-    (λ c κs. search needs)
-    (λ c. search needs)
-    (λ c. search needs)
-    (λ c. search asking)
-    (λ c. search asking)
+    (λ c. search asking) ask-pair-requires
+    (λ c κs. search needs) (λ c. search needs) (λ c. search needs) (λ c. search asking) (λ c. search asking)
     (λ c. search asking))

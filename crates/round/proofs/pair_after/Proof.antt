@@ -9,11 +9,7 @@ pub pair-after-spec : {M : Type 1} → statement M
 pair-after-spec =
     tie.close
     (tie.spec
-    (λ c. search needs)
-    (λ c. search needs)
-    (λ c. search needs)
-    (λ c. search needs)
-    (λ c. search needs)
+    (λ c. search needs) (λ c. search needs) (λ c. search needs) (λ c. search needs) (λ c. search needs)
     (λ c. search needs)
     (λ c. sym (ap pairAfter (c .enum-told .given .1)))
     (λ c. sym (ap pairAfter (c .enum-told2 .given .1)))

@@ -15,9 +15,7 @@ pub is-filled-spec : {M : Type 1} → statement M
 is-filled-spec =
     tie.close
     (tie.spec
-    (λ c. search needs)
-    wedge
-    (λ c. search needs)
-    stack
+    (λ c. search needs) wedge
+    (λ c. search needs) stack
     (λ c. rw (c .before .before .s .given .1) (c .is-filled-wedge .ensures))
     (λ c. rw (c .before .before .s2 .given .1) (c .is-filled .ensures)))

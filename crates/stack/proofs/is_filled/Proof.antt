@@ -38,10 +38,8 @@ pub is-filled-spec : {M : Type 1} → statement M
 is-filled-spec =
     tie.close
     (tie.spec
-    (λ c. search side-casts)
-    (λ c. search side-casts)
+    (λ c. search side-casts) (λ c. search side-casts)
     (λ c. fits-unsigned (search machine depth 30 fits 5000) tt (search needs))
     (λ c. fits-unsigned (search machine depth 30 fits 5000) tt (search needs))
     (λ c. fits-unsigned (search machine depth 30 fits 5000) tt (search needs))
-    is-voxel-requires
-    returns)
+    is-voxel-requires returns)

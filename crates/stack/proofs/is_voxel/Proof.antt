@@ -33,7 +33,4 @@ is-voxel-spec =
     (λ c. omega (arith, at-held (c .before .before .pre) (c .row-bytes .ensures)))
     (λ c. omega (arith, at-held (c .before .before .pre) (c .row-bytes .ensures)))
     (λ c. search at-held)
-    (λ c. search needs)
-    (λ c. search needs)
-    (λ c. search needs)
-    returns)
+    (λ c. search needs) (λ c. search needs) (λ c. search needs) returns)

@@ -8,9 +8,5 @@ pub stack-bytes-spec : {M : Type 1} → statement M
 stack-bytes-spec =
     tie.close
     (tie.spec
-    (λ c. search side-casts)
-    (λ c. search side-casts)
-    (λ c. search side-casts)
-    (λ c κs. search slice-sides)
-    (λ c. search stack-fits)
-    (λ c. search stack-bytes))
+    (λ c. search side-casts) (λ c. search side-casts) (λ c. search side-casts) (λ c κs. search slice-sides)
+    (λ c. search stack-fits) (λ c. search stack-bytes))

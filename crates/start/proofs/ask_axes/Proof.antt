@@ -45,18 +45,7 @@ ask-axes-spec =
     (tie.spec
     (λ c κs. search needs)
     (λ c κs. (c .before .before .pre .0, search needs, omega (arith, c .ask-minus .ensures .few)))
-    (λ c. search needs)
-    (λ c. search needs)
-    ask-minus-requires-2
-    judge-axis-requires-2
-    (λ c. search needs)
-    (λ c. search needs)
-    ask-minus-requires-3
-    judge-axis-requires-3
-    (λ c. search needs)
-    (λ c. search needs)
-    judge-levels-requires
-    (λ c. search in-turn)
-    (λ c. search in-turn)
-    (λ c. search in-turn)
-    (λ c. search in-turn))
+    (λ c. search needs) (λ c. search needs) ask-minus-requires-2 judge-axis-requires-2
+    (λ c. search needs) (λ c. search needs) ask-minus-requires-3 judge-axis-requires-3
+    (λ c. search needs) (λ c. search needs) judge-levels-requires (λ c. search in-turn) (λ c. search in-turn)
+    (λ c. search in-turn) (λ c. search in-turn))

@@ -16,13 +16,8 @@ pub ask-opposite-spec : {M : Type 1} → statement M
 ask-opposite-spec =
     tie.close
     (tie.spec
-    lay-requires
-    ask-falls-requires
+    lay-requires ask-falls-requires
     (λ c. search needs)
     (λ c κs. let s = c .before .before .before .before .before .before .before in (apex-fits (s .pre .0), s .pre .0 .signed, s .pre .1))
-    (λ c. search needs)
-    (λ c. search needs)
-    (λ c κs. search needs)
-    (λ c. search opposing)
-    (λ c. search opposing)
+    (λ c. search needs) (λ c. search needs) (λ c κs. search needs) (λ c. search opposing) (λ c. search opposing)
     (λ c. search opposing))

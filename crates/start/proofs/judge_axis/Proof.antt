@@ -16,11 +16,6 @@ pub judge-axis-spec : {M : Type 1} → statement M
 judge-axis-spec =
     tie.close
     (tie.spec
-    (λ c. search needs)
-    (λ c. search needs)
-    ask-opposite-requires
-    (λ c. search needs)
-    (λ c κs. search needs)
-    (λ c. search judging-axis)
-    (λ c. search judging-axis)
+    (λ c. search needs) (λ c. search needs) ask-opposite-requires
+    (λ c. search needs) (λ c κs. search needs) (λ c. search judging-axis) (λ c. search judging-axis)
     (λ c. search judging-axis))
