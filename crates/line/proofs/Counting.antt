@@ -15,9 +15,9 @@ use Rattle.integers.specs.Tests.{not-second}
 use Rattle.rules.specs.Decimals.{isDigit, areDigits, value}
 use Rattle.rules.specs.Session.{fewDigits}
 use Rattle.text.specs.Decimals.{digit-range}
+use Rattle.text.specs.Places.{drop-here}
 use Rattle.line.specs.declared.Digits.the-variants.{Value, NoDigits}
 use Rattle.line.specs.Reading.{digitsOf, DigitsRead}
-use Rattle.line.proofs.Finding.{drop-here}
 
 -- ---- ways out that give no digits
 no-digits : (part : List ℕ) → fewDigits part ≡ false → DigitsRead part NoDigits

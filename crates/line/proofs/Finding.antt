@@ -3,17 +3,13 @@ use mathlib.Core.Path.{_≡_, sym, ap, _∙_}
 use mathlib.Core.Logic.{_≢_}
 use mathlib.Core.List.{List, [], _∷_, _++_}
 use Prim.Native.Nat.{ℕ, suc, _+_, _-_, _≤_, _<_}
-use native.Mathlib.Numerals.{add-one}
 use native.Mathlib.Omega.{arith}
 use lib.ListN.{length, take, drop, getD, length-drop, drop-of-length-le}
-use lib.Seq.{drop-cons, take-suc, getD-drop}
+use lib.Seq.{take-suc, getD-drop}
 use borrow.Author.Tests.{eq-eqb, ne-eqb}
 use Rattle.rules.specs.Session.{parts}
+use Rattle.text.specs.Places.{drop-here}
 use Rattle.line.specs.Reading.{stretch, PartEnds}
-
--- what is left from a place on: the byte there, and the rest
-pub drop-here : (s : List ℕ) (i : ℕ) → i < length s → drop i s ≡ getD s i 0 ∷ drop (i + 1) s
-drop-here s i h = rw add-one (drop-cons s i 0 h)
 
 pub record Finding (s : List ℕ) (at mark i : ℕ) : Type 0 where
   pub from : at ≤ i

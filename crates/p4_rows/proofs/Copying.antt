@@ -6,7 +6,7 @@ use native.Mathlib.Nat.{add-zero, sub-zero}
 use native.Mathlib.Omega.{arith}
 use lib.ListN.{length, getD, take, drop, set, length-set}
 use lib.Seq.{sets}
-use Rattle.p4_laws.specs.Stores.{drop-here}
+use Rattle.text.specs.Places.{drop-here}
 use Rattle.p4_rows.specs.Copies.{CopyRoom}
 
 pub record Copying (src : List ℕ) (from : ℕ) (first : List ℕ) (to count : ℕ) (out : List ℕ) (i : ℕ) : Type 0 where

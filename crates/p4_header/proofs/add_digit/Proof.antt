@@ -1,6 +1,6 @@
 -- `p4_header::add_digit` meets its contract: a digit's byte lies from 48 to 57, so no number overflows.
 use native.Mathlib.Omega.{arith}
-use Rattle.p4_laws.specs.Scans.{digit-range}
+use Rattle.text.specs.Decimals.{digit-range}
 use Rattle.p4_header.proofs.add_digit.Statement.{statement}
 use Rattle.p4_header.proofs.add_digit.Tie as tie
 

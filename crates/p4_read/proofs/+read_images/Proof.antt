@@ -68,7 +68,7 @@ module _ (t : ℕ) where
       let f = b .before .before in
       let k = f .before .before in
       let p = k .before .before .before .before .before .pre .1 in (
-        search (sides, arith),
+        search arith,
         copy-room (p .0) (p .1) (k .before .before .if1 .left) (k .before .if3 .left) (k .find-rows .ensures)
             (f .found2 .given .1) (b .slice-bytes .ensures) _ (g .read-images .ensures)
             (c .before .before .rest2 .given .1) (g .read-images .kept .1 .1 .0) (omega arith),
