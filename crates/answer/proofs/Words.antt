@@ -21,8 +21,8 @@ use Rattle.text.specs.Puts.{put-then, put-length}
 use Rattle.text.specs.Decimals.{decimal-length, signed-length}
 use Rattle.answer.specs.Wrote.{Space, Wrote}
 
-abbrev back : ℤ → ℤ
-back z = toZ w32 (ofZ w32 z)
+abbrev readBack : ℤ → ℤ
+readBack z = toZ w32 (ofZ w32 z)
 
 -- ---- writes in a row
 then : {m n : ℕ} {l l₁ l₂ a b : List ℕ} {at next end : ℕ} → Wrote m l at a l₁ next → Wrote n l₁ next b l₂ end → Wrote (m + n) l at (a ++ b) l₂ end
@@ -48,16 +48,16 @@ module _ {l l₁ : List ℕ} {at next : ℕ} (p : Put l at (32 ∷ []) l₁ next
   pub wrote-count : {n end : ℕ} {l₂ : List ℕ} → Fits w32 n → Put l₁ next (decimal n) l₂ end → Wrote 11 l at (word (pos n)) l₂ end
   wrote-count f q = then (one p) (record { put = q; few = unsigned-short f })
 
-  pub word-room : {z : ℤ} → Space 12 l at → SFits w32 z → Room l₁ next (signedDecimal (back z))
-  word-room {z} s f = room {n = 11} (signedDecimal (back z)) (rw (toZ-ofZ f) (signed-short f)) s
+  pub word-room : {z : ℤ} → Space 12 l at → SFits w32 z → Room l₁ next (signedDecimal (readBack z))
+  word-room {z} s f = room {n = 11} (signedDecimal (readBack z)) (rw (toZ-ofZ f) (signed-short f)) s
 
-  pub wrote-word : {z : ℤ} {end : ℕ} {l₂ : List ℕ} → SFits w32 z → Put l₁ next (signedDecimal (back z)) l₂ end → Wrote 12 l at (word z) l₂ end
+  pub wrote-word : {z : ℤ} {end : ℕ} {l₂ : List ℕ} → SFits w32 z → Put l₁ next (signedDecimal (readBack z)) l₂ end → Wrote 12 l at (word z) l₂ end
   wrote-word {z} f q = then (one p) (record { put = rw (toZ-ofZ f) at q; few = signed-short f })
 
 -- ---- lines
 module _ {l l₁ l₂ l₃ : List ℕ} {at a b c : ℕ} where
   pub wrote-three : {v : Vector} → SFits w32 (v .x) → SFits w32 (v .y) → SFits w32 (v .z)
-      → Wrote 12 l at (word (back (v .x))) l₁ a → Wrote 12 l₁ a (word (back (v .y))) l₂ b → Wrote 12 l₂ b (word (back (v .z))) l₃ c → Wrote 36 l at (three v) l₃ c
+      → Wrote 12 l at (word (readBack (v .x))) l₁ a → Wrote 12 l₁ a (word (readBack (v .y))) l₂ b → Wrote 12 l₂ b (word (readBack (v .z))) l₃ c → Wrote 36 l at (three v) l₃ c
   unfolding three
   wrote-three f g h p q r = then (rw (toZ-ofZ f) at p) (then (rw (toZ-ofZ g) at q) (rw (toZ-ofZ h) at r))
 

@@ -15,9 +15,9 @@ use Rattle.rules.specs.Display.{square, largest, sizeOf, component, isNegative}
 use Rattle.display.specs.Parts.{Square, Part, Low, Size, Whole, Shown}
 use Rattle.display.specs.Roots.{largest-within}
 use Rattle.display.specs.Floats.{divided}
-use Rattle.display.proofs.Ranges.{back}
+use Rattle.display.proofs.Bits.{readBack}
 
-module _ {s r : ℕ} {n : ℤ} (b : SFits w32 n) (P : Part s n) (Q : Square (back n) r) where
+module _ {s r : ℕ} {n : ℤ} (b : SFits w32 n) (P : Part s n) (Q : Square (readBack n) r) where
   is-square : r ≡ square n
   is-square = Q .is ∙ ap square (toZ-ofZ b)
 
@@ -42,7 +42,7 @@ positive : (n : ℤ) → ltZ n (pos 0) ≡ false → isNegative n ≡ false
 positive (pos k) e = refl
 positive (negsuc k) e = let h = lt-no (negsuc k) (pos 0) e in absurd (omega (arith, parts))
 
-module _ {s m : ℕ} {n : ℤ} {f : Float} (b : SFits w32 n) (e : Size s (back n) m) (v : Whole m f) where
+module _ {s m : ℕ} {n : ℤ} {f : Float} (b : SFits w32 n) (e : Size s (readBack n) m) (v : Whole m f) where
   with-sign : (sign : Bool) → isNegative n ≡ sign → div binary32 f (fin sign 1 (pos 15)) ≡ component s n
   unfolding component
   with-sign sign g =
@@ -50,10 +50,10 @@ module _ {s m : ℕ} {n : ℤ} {f : Float} (b : SFits w32 n) (e : Size s (back n
       ∙ ap (λ (k : ℕ). round binary32 sign k 32768) (e .is ∙ ap (sizeOf s) (toZ-ofZ b))
       ∙ ap (λ (t : Bool). round binary32 t (sizeOf s n) 32768) (sym g)
 
-  pub shown-below : ltZ (back n) (pos 0) ≡ true → Shown s n (div binary32 f (neg (ofBits binary32 1191182336)))
+  pub shown-below : ltZ (readBack n) (pos 0) ≡ true → Shown s n (div binary32 f (neg (ofBits binary32 1191182336)))
   unfolding neg ofBits
   shown-below t = record { is = with-sign true (negative n (rw (toZ-ofZ b) at t)) }
 
-  pub shown-from-zero : ltZ (back n) (pos 0) ≡ false → Shown s n (div binary32 f (ofBits binary32 1191182336))
+  pub shown-from-zero : ltZ (readBack n) (pos 0) ≡ false → Shown s n (div binary32 f (ofBits binary32 1191182336))
   unfolding ofBits
   shown-from-zero t = record { is = with-sign false (positive n (rw (toZ-ofZ b) at t)) }

@@ -1,4 +1,4 @@
-pub mod Ranges
+pub mod Bits
 pub mod Squares
 pub mod Components
 pub mod Answers

@@ -20,21 +20,13 @@ fn sum_of_squares(x: i32, y: i32, z: i32) -> u64
     square(x) + square(y) + square(z)
 }
 
-fn in_range(n: i32) -> bool
-    ensures { λ r. ⌜ r ≡ inRange n ⌝ }
-{
-    if -1023 <= n { n <= 1023 } else { false }
-}
-
 fn all_in_range(x: i32, y: i32, z: i32) -> bool
     ensures { λ r. ⌜ r ≡ (inRange x && (inRange y && inRange z)) ⌝ }
 {
-    if in_range(x) {
-        if in_range(y) {
-            return in_range(z);
-        }
-    }
-    false
+    let a = range::is_between(-1023, x, 1023);
+    let b = range::is_between(-1023, y, 1023);
+    let c = range::is_between(-1023, z, 1023);
+    a & (b & c)
 }
 
 // The largest m with m·m·s at most t, by halves: `high` ends as the first that is too large.

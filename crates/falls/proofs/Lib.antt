@@ -1,4 +1,2 @@
--- Laws of tallies, and the falls question power by power.
-pub mod Tallies
-pub mod Scenes
+-- The falls question power by power.
 pub mod Powers

@@ -14,30 +14,15 @@ use Rattle.integers.specs.Laws.{*ℤ-distr, *ℤ-idl}
 use Rattle.rules.specs.Vectors.{vector, _⊕_, scale}
 use Rattle.laws.specs.Ranges.{Bounded}
 use Rattle.space.specs.Bounds.{bounded-is, bounded-wider, bounded-sum}
-use Rattle.rules.specs.Walk.{seen, lookAt, falls, powers, powersFrom}
-use Rattle.falls.specs.Tally.{Tally, yes, no, tally, Gives}
+use Rattle.rules.specs.Walk.{powersFrom, powers, fallsAt}
+use Rattle.laws.specs.Tally.{Tally, yes, no, Gives, then-yes, then-no, at-once, filled-there, empty-there, outside-there}
 use Rattle.falls.specs.Falls.{Fallen, Falling}
 use Rattle.falls.specs.declared.Falls.the-variants.{Fell, Kept, Stopped}
-use Rattle.falls.proofs.Tallies.{then-yes, then-no, at-once}
-
--- ---- one look
-module _ (look : Vector → Look) (n : ℕ) (p : Vector) where
-  pub filled-there : look p ≡ Filled → Gives n (lookAt look p) (yes true (n + 1))
-  unfolding lookAt seen tally
-  filled-there e = record { is = rw e }
-
-  pub empty-there : look p ≡ Empty → Gives n (lookAt look p) (yes false (n + 1))
-  unfolding lookAt seen tally
-  empty-there e = record { is = rw e }
-
-  pub outside-there : look p ≡ Outside → Gives n (lookAt look p) (no p n)
-  unfolding lookAt seen tally
-  outside-there e = record { is = rw e (ap (no p) (omega arith)) }
 
 module _ (look : Vector → Look) (q u : Vector) (reach l n : ℕ) where
-  -- the place of the power l
-  place : Vector
-  place = q ⊕ scale (pos l) u
+  -- at the power l
+  there : Vector
+  there = q ⊕ scale (pos l) u
 
   -- the powers behind l
   behind : ℕ → List ℕ
@@ -54,28 +39,28 @@ module _ (look : Vector → Look) (q u : Vector) (reach l n : ℕ) where
   more-behind fuel h = rw (lt-leb reach l h, behind)
 
   -- the question from l on is one look and then the powers behind
-  from : (fuel : ℕ) {r : Tally Vector Bool} → Gives n (falls look q u (l ∷ behind fuel)) r → Gives n (falls look q u (powersFrom fuel l reach)) r
+  from : (fuel : ℕ) {r : Tally Vector Bool} → Gives n (fallsAt look q u (l ∷ behind fuel)) r → Gives n (fallsAt look q u (powersFrom fuel l reach)) r
   unfolding powersFrom behind
   from zero h = h
   from (suc fuel) h = h
 
-  filled-at : (fuel : ℕ) → look place ≡ Filled → Gives n (falls look q u (powersFrom fuel l reach)) (yes true (n + 1))
-  unfolding falls place
-  filled-at fuel e = from fuel (then-yes _ (filled-there look n place e) at-once)
+  filled-at : (fuel : ℕ) → look there ≡ Filled → Gives n (fallsAt look q u (powersFrom fuel l reach)) (yes true (n + 1))
+  unfolding fallsAt there
+  filled-at fuel e = from fuel (then-yes _ (filled-there look n there e) at-once)
 
-  outside-at : (fuel : ℕ) → look place ≡ Outside → Gives n (falls look q u (powersFrom fuel l reach)) (no place n)
-  unfolding falls place
-  outside-at fuel e = from fuel (then-no _ (outside-there look n place e))
+  outside-at : (fuel : ℕ) → look there ≡ Outside → Gives n (fallsAt look q u (powersFrom fuel l reach)) (no there n)
+  unfolding fallsAt there
+  outside-at fuel e = from fuel (then-no _ (outside-there look n there e))
 
-  empty-at : (fuel : ℕ) {r : Tally Vector Bool} → look place ≡ Empty → Gives (n + 1) (falls look q u (behind fuel)) r → Gives n (falls look q u (powersFrom fuel l reach)) r
-  unfolding falls place
-  empty-at fuel e h = from fuel (then-yes _ (empty-there look n place e) h)
+  empty-at : (fuel : ℕ) {r : Tally Vector Bool} → look there ≡ Empty → Gives (n + 1) (fallsAt look q u (behind fuel)) r → Gives n (fallsAt look q u (powersFrom fuel l reach)) r
+  unfolding fallsAt there
+  empty-at fuel e h = from fuel (then-yes _ (empty-there look n there e) h)
 
-  last-at : (fuel : ℕ) → look place ≡ Empty → reach ≤ l → Gives n (falls look q u (powersFrom fuel l reach)) (yes false (n + 1))
-  unfolding falls
+  last-at : (fuel : ℕ) → look there ≡ Empty → reach ≤ l → Gives n (fallsAt look q u (powersFrom fuel l reach)) (yes false (n + 1))
+  unfolding fallsAt
   last-at fuel e h = empty-at fuel e (rw (none-behind fuel h) at-once)
 
-  next-at : (fuel : ℕ) {r : Tally Vector Bool} → look place ≡ Empty → l < reach → Gives (n + 1) (falls look q u (powersFrom fuel (l + l) reach)) r → Gives n (falls look q u (powersFrom (suc fuel) l reach)) r
+  next-at : (fuel : ℕ) {r : Tally Vector Bool} → look there ≡ Empty → l < reach → Gives (n + 1) (fallsAt look q u (powersFrom fuel (l + l) reach)) r → Gives n (fallsAt look q u (powersFrom (suc fuel) l reach)) r
   next-at fuel e h g = empty-at (suc fuel) e (rw (more-behind fuel h) g)
 
 -- ---- the loop: from what holds before a look and what the look was, to what holds after it
@@ -104,20 +89,20 @@ falls-begins {u = u} {reach = reach} b = record {
 }
 
 module _ {look : Vector → Look} {q u : Vector} {reach looks l n : ℕ} {way at : Vector} {k : Look} (h : Falling look q u reach looks l n way) (a : at ≡ q ⊕ way) (b : k ≡ look at) where
-  at-place : at ≡ place look q u reach l n
-  unfolding place
-  at-place = a ∙ ap (λ (v : Vector). q ⊕ v) (h .along)
+  at-there : at ≡ there look q u reach l n
+  unfolding there
+  at-there = a ∙ ap (λ (v : Vector). q ⊕ v) (h .along)
 
-  look-is : {j : Look} → k ≡ j → look (place look q u reach l n) ≡ j
-  look-is e = sym (ap look at-place) ∙ sym b ∙ e
+  look-is : {j : Look} → k ≡ j → look (there look q u reach l n) ≡ j
+  look-is e = sym (ap look at-there) ∙ sym b ∙ e
 
-  pub falls-stopped : k ≡ Outside → Fallen look q u reach looks (Stopped at n)
-  falls-stopped e = record { gives = rw at-place (h .rest (outside-at look q u reach l n (h .fuel) (look-is e))); few = omega (arith, h .few, h .low) }
+  pub falls-stopped : {s : Vector} → k ≡ Outside → Fallen (record { look = look; apex = q; signs = s; powers = powers reach }) u looks (Stopped at n)
+  falls-stopped e = record { gives = rw at-there (h .rest (outside-at look q u reach l n (h .fuel) (look-is e))); few = omega (arith, h .few, h .low) }
 
-  pub falls-fell : k ≡ Filled → Fallen look q u reach looks (Fell (n + 1))
+  pub falls-fell : {s : Vector} → k ≡ Filled → Fallen (record { look = look; apex = q; signs = s; powers = powers reach }) u looks (Fell (n + 1))
   falls-fell e = record { gives = h .rest (filled-at look q u reach l n (h .fuel) (look-is e)); few = omega (arith, h .few, h .low) }
 
-  pub falls-kept : k ≡ Empty → reach ≤ l → Fallen look q u reach looks (Kept (n + 1))
+  pub falls-kept : {s : Vector} → k ≡ Empty → reach ≤ l → Fallen (record { look = look; apex = q; signs = s; powers = powers reach }) u looks (Kept (n + 1))
   falls-kept e o = record { gives = h .rest (last-at look q u reach l n (h .fuel) (look-is e) o); few = omega (arith, h .few, h .low) }
 
   -- fuel is left, since the reach is not met

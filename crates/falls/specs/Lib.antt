@@ -1,5 +1,5 @@
--- What the code keeps of a question, and what the falls question promises.
+-- What every question of a pick is about, and what the falls question promises.
 pub mod Scene
-pub mod Tally
+pub mod Sizes
 pub mod Falls
 pub mod Settled

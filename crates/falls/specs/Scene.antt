@@ -1,12 +1,18 @@
--- What every question below a pick's entry may take for granted.
+-- What every question below a pick's entry is about, and may take for granted.
 use mathlib.Core.List.{List}
 use Prim.Native.Nat.{ℕ, _≤_}
+use Rattle.rules.specs.Walk.{Probe}
 use Rattle.laws.specs.Frames.{Signs}
-use Rattle.solid.specs.Asks.{Permitted, Inside}
+use Rattle.laws.specs.Boxes.{probeOn}
+use Rattle.solid.specs.Asks.{PermittedSolid, InBoxOf}
 use Rattle.falls.specs.declared.Scene.{Scene}
 
+-- a scene's probe, with the bytes lent
+abbrev pub probeOf : Scene → List ℕ → Probe
+probeOf v bytes = probeOn (v .solid) bytes (v .apex) (v .signs) (v .reach)
+
 pub record Ready (v : Scene) (bytes : List ℕ) : Type 0 where
-  pub permitted : Permitted (v .solid) bytes
-  pub placed : Inside (v .solid) (v .apex)
+  pub permitted : PermittedSolid (v .solid) bytes
+  pub placed : InBoxOf (v .solid) (v .apex)
   pub signed : Signs (v .signs)
   pub reach-high : v .reach ≤ 256

@@ -1,8 +1,8 @@
 // Whether a vector falls.
-ghost use Prim.Native.Nat.{_≤_};
 ghost use Rattle.laws.specs.Ranges.{Bounded};
-ghost use Rattle.falls.specs.Scene.{Ready};
-ghost use Rattle.falls.specs.Falls.{FallenIn};
+ghost use Rattle.laws.specs.Tally.{Countable};
+ghost use Rattle.falls.specs.Scene.{probeOf, Ready};
+ghost use Rattle.falls.specs.Falls.{Fallen};
 use rules::Look;
 use rules::Solid;
 use rules::Vector;
@@ -24,8 +24,8 @@ pub enum Falls {
 
 // Whether u, laid in, falls: powers upward from 1 to the first that is at least the reach, each twice as far as the one before.
 pub fn ask_falls(scene: Scene, bytes: &[u8], u: Vector, looks: u32) -> Falls
-    requires { ⌜ Ready scene (now bytes) × Bounded 2046 u × (looks ≤ 2000000) ⌝ }
-    ensures { λ r. ⌜ FallenIn scene (now (bytes .entry)) u looks r ⌝ }
+    requires { ⌜ Ready scene (now bytes) × Bounded 2046 u × Countable 1 looks ⌝ }
+    ensures { λ r. ⌜ Fallen (probeOf scene (now (bytes .entry))) u looks r ⌝ }
 {
     let solid = scene.solid;
     let q = scene.apex;

@@ -13,7 +13,7 @@ use mir.Facts.{toZ-ofZ, sfits-lit}
 use Rattle.integers.specs.Reify.{byring, sides, by-eq}
 use Rattle.integers.specs.Order.{parts, linear, atom, goal, fact, *ℤ-mono}
 use Rattle.integers.specs.Sizes.{Within, sizes, within-linear}
-use Rattle.integers.specs.Machine.{machine, typed, tests, fits, fits-unsigned, value, told, within, le-yes, eq-bits}
+use Rattle.integers.specs.Machine.{machine, typed, tests, fits, fits-unsigned, value, without-bits, within, le-yes, eq-bits}
 use Rattle.integers.specs.Machine.{Reads, Stands, known-stands, through-both}
 
 -- ---- identities
@@ -112,7 +112,7 @@ module _ (x y : ℤ) (h : Within 2046 x) (k : Within 3069 y) where
   at-most = value (search machine depth 30 fits 5000) tt
 
   at-most-left : leZ (wide x *ℤ wide x) (wide y) ≡ true → (x *ℤ x) ≤ℤ y
-  at-most-left e = le-yes _ _ (told e (search machine depth 30 fits 5000) tt)
+  at-most-left e = le-yes _ _ (without-bits e (search machine depth 30 fits 5000) tt)
 
   -- a struct, by a rule for it
   abbrev vector-reads : {x y z : ℤ} → Stands x → Stands y → Stands z → Reads (vector x y z)

@@ -1,4 +1,4 @@
--- The integers: a commutative ring with a solver, their order by `omega`, sizes, and the machine's signed numbers.
+-- The integers: a commutative ring with a solver, their order by `omega`, sizes, and the machine's signed numbers; and tests of two parts.
 -- `Examples` has a line for each use.
 pub mod Laws
 pub mod Ring
@@ -6,4 +6,5 @@ pub mod Reify
 pub mod Order
 pub mod Sizes
 pub mod Machine
+pub mod Tests
 pub mod Examples

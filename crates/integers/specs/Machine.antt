@@ -3,7 +3,7 @@
 -- that everything on the way fits, which computes. The bounds come from hypotheses `Within B x`, and `n ≤ B` of a natural n.
 --     fits (search machine) tt               a need `SFits w z`: a sum, a product, a cast
 --     value (search machine) tt              a number, a size or a test is what it is without the bits
---     told e (search machine) tt             the same of a fact e that a test left
+--     without-bits e (search machine) tt     the same of a fact e that a test left
 --     within (search machine) tt             `Within B z`
 --     fits-unsigned (search machine) tt h    a cast to an unsigned width, with h : pos 0 ≤ℤ x of the number x
 -- A long term wants `search machine depth 30 fits 5000`; a number of which only the type is known, `search (machine, typed)`.
@@ -37,8 +37,8 @@ pub record Stands (z : ℤ) : Type 0 where
 pub value : {A : Type 0} {a : A} (p : Reads a) → T (p .passes) → a ≡ p .plain
 value p = p .reads
 
-pub told : {A : Type 0} {a r : A} → a ≡ r → (p : Reads a) → T (p .passes) → p .plain ≡ r
-told e p t = sym (p .reads t) ∙ e
+pub without-bits : {A : Type 0} {a r : A} → a ≡ r → (p : Reads a) → T (p .passes) → p .plain ≡ r
+without-bits e p t = sym (p .reads t) ∙ e
 
 -- ---- what reads as itself
 abbrev pub as-it-is : {A : Type 0} (a : A) → Reads a

@@ -117,37 +117,37 @@ product-parts {x} {y} a b = record {
 
 -- ---- a statement on integers, told as one on naturals
 pub record Linear (A : Type 0) : Type 1 where
-  pub Told : Type 0
-  pub tell : A → Told
-  pub ask : Told → A
+  pub OnNaturals : Type 0
+  pub tell : A → OnNaturals
+  pub ask : OnNaturals → A
 
 abbrev pub le-linear : {x y : ℤ} → Difference x → Difference y → Linear (x ≤ℤ y)
 le-linear a b = record {
-  Told = a .plus + b .minus ≤ b .plus + a .minus;
+  OnNaturals = a .plus + b .minus ≤ b .plus + a .minus;
   tell = λ h. omega (arith, parts);
   ask = λ h. omega (arith, parts);
 }
 
 abbrev pub lt-linear : {x y : ℤ} → Difference x → Difference y → Linear (x <ℤ y)
 lt-linear a b = record {
-  Told = a .plus + b .minus < b .plus + a .minus;
+  OnNaturals = a .plus + b .minus < b .plus + a .minus;
   tell = λ h. omega (arith, parts);
   ask = λ h. omega (arith, parts);
 }
 
 abbrev pub eq-linear : {x y : ℤ} → Difference x → Difference y → Linear (x ≡ y)
 eq-linear a b = record {
-  Told = a .plus + b .minus ≡ b .plus + a .minus;
+  OnNaturals = a .plus + b .minus ≡ b .plus + a .minus;
   tell = λ h. omega (arith, parts);
   ask = λ h. omega (arith, parts);
 }
 
 pub ruleset linear = (le-linear, lt-linear, eq-linear, sum-parts, opposite-parts, product-parts, literal-parts, negative-parts)
 
-pub goal : {A : Type 0} (s : Linear A) → s .Told → A
+pub goal : {A : Type 0} (s : Linear A) → s .OnNaturals → A
 goal s = s .ask
 
-pub fact : {A : Type 0} (s : Linear A) → A → s .Told
+pub fact : {A : Type 0} (s : Linear A) → A → s .OnNaturals
 fact s = s .tell
 
 -- ---- products

@@ -27,7 +27,7 @@ pub ruleset sizes = (within-parts, parts-within)
 
 abbrev pub within-linear : {B : ℕ} {x : ℤ} → Difference x → Linear (Within B x)
 within-linear {B} a = record {
-  Told = (a .plus - a .minus) + (a .minus - a .plus) ≤ B;
+  OnNaturals = (a .plus - a .minus) + (a .minus - a .plus) ≤ B;
   tell = λ h. omega (arith, sizes);
   ask = λ h. omega (arith, sizes);
 }

@@ -1,4 +1,4 @@
--- The pick's answer: what was told of the question holds of its two cases. An accepted record's level axes are those along which its normal's part is 0.
+-- The pick's answer: what is said of the question holds of its two cases. An accepted record's level axes are those along which its normal's part is 0.
 use mathlib.Core.Path.{_≡_, refl, sym, ap, subst, _∙_}
 use mathlib.Core.Bool.{Bool, true, false}
 use mathlib.Core.List.{List}
@@ -11,7 +11,6 @@ use lib.IntN.{ℤ, pos, natAbs}
 use lib.Signed.{_≤ℤ_}
 use Rattle.integers.specs.Order.{parts}
 use Rattle.rules.specs.declared.Vector.{Vector}
-use Rattle.rules.specs.declared.Look.{Look}
 use Rattle.rules.specs.declared.Solid.{Solid}
 use Rattle.rules.specs.declared.Levels.{Levels}
 use Rattle.rules.specs.declared.Triangle.{Triangle}
@@ -22,8 +21,8 @@ use Rattle.rules.specs.declared.Pick.the-variants.{Accepted, Refused}
 use Rattle.rules.specs.Vectors.{_⊕_, scale, dot, lay}
 use Rattle.rules.specs.Asked.{Asked, answered, refused}
 use Rattle.rules.specs.Solids.{permitted, look}
-use Rattle.rules.specs.Walk.{Stop, stop, powers, Axis, axis0, axis1, axis2, unit, triangle, vectorOf, level, remaining, unlessLevel, levelled, normal, Found, found}
-use Rattle.rules.specs.Pick.{pick, answer, pickOf}
+use Rattle.rules.specs.Walk.{Stop, stop, powers, Axis, axis0, axis1, axis2, unit, vectorOf, level, remaining, unlessLevel, levelled, normal, Probe, Found, laid, found}
+use Rattle.rules.specs.Pick.{pick, accepted, answer, pickOf}
 use Rattle.laws.specs.Parts.{NonNegative, part, part-of, parts-by, scale-one}
 use Rattle.laws.specs.Triples.{detOf, crosses, combined, expand}
 use Rattle.laws.specs.Levels.{above-zero, isZero, levelsOf, levels-of, levels-eq, part-levelled}
@@ -35,11 +34,7 @@ use Rattle.laws.specs.Answered.{voxelsOf}
 use Rattle.laws.specs.Frames.{Signs, lay-lay, lay-dot, lay-scale, lay-sum, lay-part-zero}
 use Rattle.laws.specs.Next.{LevelsAnswered}
 use Rattle.laws.specs.Axes.{levels-answered}
-use Rattle.laws.specs.Picks.{Accepting, Picked, ToldOf, pick-says}
-
--- a triangle laid into the box, or back out of it
-abbrev pub laid : Vector → Triangle → Triangle
-laid s m = triangle (lay s (m .m0)) (lay s (m .m1)) (lay s (m .m2))
+use Rattle.laws.specs.Picks.{Accepting, PickFound, RefusalHere, pick-says}
 
 pub laid-of : (s : Vector) (m : Triangle) (k : Axis) → vectorOf (laid s m) k ≡ lay s (vectorOf m k)
 laid-of s m axis0 = refl
@@ -61,20 +56,21 @@ foundOf a = record { normal = a .normal; triangle = a .triangle; apex = a .apex;
 abbrev pub stopOf : RefusedPick → Stop
 stopOf r = stop (r .number) (r .place) (r .steps)
 
-abbrev pub AnswerSays : (Found → ℕ → Type 0) → (Stop → ℕ → Type 0) → Pick → Type 0
-AnswerSays Q F (Accepted a) = Q (foundOf a) (a .looks)
-AnswerSays Q F (Refused r) = F (stopOf r) (r .looks)
+-- with the voxels that were looked at: the looks count them
+abbrev pub AnswerSays : (Found → List Vector → Type 0) → (Stop → List Vector → Type 0) → Pick → Type 0
+AnswerSays Q F (Accepted a) = (t : List Vector) × Q (foundOf a) t × (a .looks ≡ length t)
+AnswerSays Q F (Refused r) = (t : List Vector) × F (stopOf r) t × (r .looks ≡ length t)
 
-pub answer-says : (Q : Found → ℕ → Type 0) (F : Stop → ℕ → Type 0) (x : Asked Stop Found) → Says Q F x → AnswerSays Q F (answer x)
+pub answer-says : (Q : Found → List Vector → Type 0) (F : Stop → List Vector → Type 0) (x : Asked Stop Found) → Says Q F x → AnswerSays Q F (answer x)
 unfolding answer
-answer-says Q F (answered f t) h = h .of
-answer-says Q F (refused r t) h = h .of
+answer-says Q F (answered f t) h = (t, h .of, refl)
+answer-says Q F (refused r t) h = (t, h .of, refl)
 
 -- an accepted record is what the question answered, with its looks counted
 pub accepted-answer : (x : Asked Stop Found) {a : AcceptedPick} → answer x ≡ Accepted a → x ≡ answered (foundOf a) (voxelsOf x)
 unfolding answer
 accepted-answer (answered f t) {a} e =
-    let is : record { normal = f .normal; triangle = f .triangle; apex = f .apex; steps = f .steps; looks = length t } ≡ a = cc in
+    let is : accepted f (length t) ≡ a = cc in
     ap (λ (a : AcceptedPick). answered (foundOf a) t) is
 accepted-answer (refused r t) e = absurd (let z : _≡_ {A = ℕ} 0 1 = cc in omega arith)
 
@@ -117,11 +113,14 @@ as-upward : (b : Bool) (z : ℤ) → PartAs b z → pos 0 ≤ℤ z
 as-upward true z h = omega (arith, parts, h)
 as-upward false z h = omega (arith, parts, h)
 
-module _ {look : Vector → Look} {q s : Vector} {R : ℕ} {f : Found} (h : Accepting look q s R f) where
+module _ {c : Probe} {R : ℕ} {f : Found} (h : Accepting c R f) where
+  abbrev s : Vector
+  s = c .signs
+
   abbrev m : Triangle
   m = h .at .0
 
-  accepting-triangle : f .triangle ≡ laid s (h .at .0)
+  accepting-triangle : f .triangle ≡ laid (c .signs) (h .at .0)
   unfolding found
   accepting-triangle = ap (λ (f : Found). f .triangle) (h .is)
 
@@ -129,7 +128,7 @@ module _ {look : Vector → Look} {q s : Vector} {R : ℕ} {f : Found} (h : Acce
   unfolding found
   accepting-normal = ap (λ (f : Found). f .normal) (h .is)
 
-  pub accepting-determinant : Signs s → detOf (laid s (f .triangle)) ≡ pos 1
+  pub accepting-determinant : Signs (c .signs) → detOf (laid (c .signs) (f .triangle)) ≡ pos 1
   accepting-determinant g = rw accepting-triangle (rw (lay-lay s (m .m0) g, lay-lay s (m .m1) g, lay-lay s (m .m2) g) (h .end .tame .unimodular))
 
   part-is : Signs s → (k : Axis) → PartAs (level (h .level) k) (part k (lay s (f .normal)))
@@ -138,58 +137,61 @@ module _ {look : Vector → Look} {q s : Vector} {R : ℕ} {f : Found} (h : Acce
       (part-as (level (h .level) k) (part k (normal m)) (part-of (tame-normal m (h .end .tame)) k))
 
   -- no part against the frame
-  pub accepting-signs : Signs s → NonNegative (lay s (f .normal))
+  pub accepting-signs : Signs (c .signs) → NonNegative (lay (c .signs) (f .normal))
   accepting-signs g = parts-by (λ z. pos 0 ≤ℤ z) (lay s (f .normal)) (λ k. as-upward (level (h .level) k) _ (part-is g k))
 
-  pub accepting-levels : Signs s → h .level ≡ levelsOf (f .normal)
+  pub accepting-levels : Signs (c .signs) → h .level ≡ levelsOf (f .normal)
   accepting-levels g = levels-eq (λ k. as-zero (level (h .level) k) _ (part-is g k) ∙ lay-part-zero s (f .normal) g k ∙ sym (levels-of (f .normal) k))
 
-  pub accepting-steps : Signs s → f .steps ≤ R - length (remaining (levelsOf (f .normal)))
+  pub accepting-steps : Signs (c .signs) → f .steps ≤ R - length (remaining (levelsOf (f .normal)))
   unfolding found
   accepting-steps g = rw (← accepting-levels g, ap (λ (f : Found). f .steps) (h .is)) (h .end .fewSteps .0)
 
-  pub accepting-axes : Signs s → LevelsAnswered look q s (powers R) (levelsOf (f .normal))
-  accepting-axes g = subst (LevelsAnswered look q s (powers R)) (accepting-levels g) (levels-answered look q s (powers R) (h .asked))
+  pub accepting-axes : Signs (c .signs) → LevelsAnswered c (levelsOf (f .normal))
+  accepting-axes g = subst (LevelsAnswered c) (accepting-levels g) (levels-answered c (h .asked))
 
   -- a level axis's vector stays the unit vector
-  pub accepting-stays : Signs s → (k : Axis) → T (level (levelsOf (f .normal)) k) → vectorOf (f .triangle) k ≡ lay s (unit k)
+  pub accepting-stays : Signs (c .signs) → (k : Axis) → T (level (levelsOf (f .normal)) k) → vectorOf (f .triangle) k ≡ lay (c .signs) (unit k)
   accepting-stays g k e = ap (λ (t : Triangle). vectorOf t k) accepting-triangle ∙ laid-of s m k ∙ ap (lay s) (h .end .flat k (subst (λ (v : Levels). T (level v k)) (sym (accepting-levels g)) e) k .own refl)
 
-  pub accepting-products : Signs s → Products (levelsOf (f .normal)) (f .normal) (f .triangle)
+  pub accepting-products : Signs (c .signs) → Products (levelsOf (f .normal)) (f .normal) (f .triangle)
   accepting-products g = rw (← accepting-levels g) (rw (accepting-triangle, accepting-normal) (laid-products g (h .end .flat) (h .end .tame .unimodular)))
 
-  pub accepting-generated : Signs s → (v : Vector) → dot (f .normal) v ≡ pos 0 → Combines (generators (levelsOf (f .normal)) (f .triangle)) v
+  pub accepting-generated : Signs (c .signs) → (v : Vector) → dot (f .normal) v ≡ pos 0 → Combines (generators (levelsOf (f .normal)) (f .triangle)) v
   accepting-generated g v e = subst (λ l. Combines (generators l (f .triangle)) v) (accepting-levels g) (rw accepting-triangle (laid-generated g (h .end .flat) (h .end .tame .unimodular) v (rw accepting-normal at e)))
 
 -- ---- and of a solid's pick
 module _ (solid : Solid) (bytes : List ℕ) (p : Vector) (frame reach : ℤ) where
-  abbrev PickedHere : Found → Type 0
-  PickedHere = Picked (permitted solid bytes) (look solid bytes) p frame reach
+  abbrev FoundOn : Found → Type 0
+  FoundOn = PickFound (permitted solid bytes) (look solid bytes) p frame reach
 
-  abbrev ToldHere : Stop → Type 0
-  ToldHere = ToldOf (permitted solid bytes) (look solid bytes) p frame reach
+  abbrev RefusalOn : Stop → Type 0
+  RefusalOn = RefusalHere (permitted solid bytes) (look solid bytes) p frame reach
 
-  pub told : (N : ℕ) → (natAbs reach ≤ 256 → 2 + length (powers (natAbs reach)) * (6 * max (natAbs reach) 3 - 9) ≤ N) → AnswerSays (Few N PickedHere) (Few N ToldHere) (pickOf solid bytes p frame reach)
+  abbrev K : ℕ
+  K = length (powers (natAbs reach))
+
+  tells : (N : ℕ) → (natAbs reach ≤ 256 → 2 + K * (6 * max (natAbs reach) 3 - 9) ≤ N) → AnswerSays (Few N FoundOn) (Few N RefusalOn) (pickOf solid bytes p frame reach)
   unfolding pickOf
-  told N h = answer-says _ _ (pick (permitted solid bytes) (look solid bytes) p frame reach) (pick-says (permitted solid bytes) (look solid bytes) p frame reach N h)
+  tells N h = answer-says _ _ (pick (permitted solid bytes) (look solid bytes) p frame reach) (pick-says (permitted solid bytes) (look solid bytes) p frame reach N h)
 
-  pub told-accepted : (a : AcceptedPick) → pickOf solid bytes p frame reach ≡ Accepted a → PickedHere (foundOf a)
-  told-accepted a e = subst (AnswerSays _ _) e (told _ (λ _. NatL.le-refl _)) .holds
+  pub accepted-tells : (a : AcceptedPick) → pickOf solid bytes p frame reach ≡ Accepted a → FoundOn (foundOf a)
+  accepted-tells a e = subst (AnswerSays _ _) e (tells _ (λ _. NatL.le-refl _)) .1 .holds
 
-  pub told-refused : (r : RefusedPick) → pickOf solid bytes p frame reach ≡ Refused r → ToldHere (stopOf r)
-  told-refused r e = subst (AnswerSays _ _) e (told _ (λ _. NatL.le-refl _)) .holds
+  pub refused-tells : (r : RefusedPick) → pickOf solid bytes p frame reach ≡ Refused r → RefusalOn (stopOf r)
+  refused-tells r e = subst (AnswerSays _ _) e (tells _ (λ _. NatL.le-refl _)) .1 .holds
 
-  pub told-steps : stepsOf (pickOf solid bytes p frame reach) ≤ natAbs reach - 2
+  pub few-steps : stepsOf (pickOf solid bytes p frame reach) ≤ natAbs reach - 2
   unfolding found
-  told-steps = go _ (pickOf solid bytes p frame reach) (told _ (λ _. NatL.le-refl _))
+  few-steps = go _ (pickOf solid bytes p frame reach) (tells _ (λ _. NatL.le-refl _))
     where
-      go : (N : ℕ) (x : Pick) → AnswerSays (Few N PickedHere) (Few N ToldHere) x → stepsOf x ≤ natAbs reach - 2
-      go N (Accepted a) h = let k = h .holds .accepting in rw (ap (λ (f : Found). f .steps) (k .is)) (k .end .fewSteps .1 .most)
-      go N (Refused r) h = h .holds .fewSteps .most
+      go : (N : ℕ) (x : Pick) → AnswerSays (Few N FoundOn) (Few N RefusalOn) x → stepsOf x ≤ natAbs reach - 2
+      go N (Accepted a) h = let k = h .1 .holds .accepting in rw (ap (λ (f : Found). f .steps) (k .is)) (k .end .fewSteps .1 .most)
+      go N (Refused r) h = h .1 .holds .fewSteps .most
 
-  pub told-looks : (N : ℕ) → (natAbs reach ≤ 256 → 2 + length (powers (natAbs reach)) * (6 * max (natAbs reach) 3 - 9) ≤ N) → looksOf (pickOf solid bytes p frame reach) ≤ N
-  told-looks N h = go (pickOf solid bytes p frame reach) (told N h)
+  pub few-looks : (N : ℕ) → (natAbs reach ≤ 256 → 2 + length (powers (natAbs reach)) * (6 * max (natAbs reach) 3 - 9) ≤ N) → looksOf (pickOf solid bytes p frame reach) ≤ N
+  few-looks N h = go (pickOf solid bytes p frame reach) (tells N h)
     where
-      go : (x : Pick) → AnswerSays (Few N PickedHere) (Few N ToldHere) x → looksOf x ≤ N
-      go (Accepted a) h = h .few
-      go (Refused r) h = h .few
+      go : (x : Pick) → AnswerSays (Few N FoundOn) (Few N RefusalOn) x → looksOf x ≤ N
+      go (Accepted a) h = omega (arith, h .1 .few, h .2)
+      go (Refused r) h = omega (arith, h .1 .few, h .2)

@@ -7,16 +7,15 @@ use Prim.Native.Nat.{ℕ}
 use native.Mathlib.Omega.{arith}
 use lib.Dec.{T}
 use Rattle.rules.specs.declared.Vector.{Vector}
-use Rattle.rules.specs.declared.Look.{Look}
 use Rattle.rules.specs.declared.Levels.{Levels}
 use Rattle.rules.specs.declared.Triangle.{Triangle}
 use Rattle.rules.specs.declared.Pair.{Pair}
 use Rattle.rules.specs.declared.Pair.the-variants.{P01, P02, P10, P12, P20, P21}
 use Rattle.rules.specs.Vectors.{_⊕_, _⊖_, minus, lay}
 use Rattle.rules.specs.Asked.{Asked, answered, _>>=_, _>>_}
-use Rattle.rules.specs.Walk.{Stop, stop, ensure, asked, falls, powers, Axis, unit, units, pairs, from, to, vectorOf, first, second, way, level, only, takesPart, isLevel, Found, found}
-use Rattle.laws.specs.Tests.{is-true, both, In}
-use Rattle.laws.specs.Only.{each-in, each-taking}
+use Rattle.rules.specs.Walk.{Stop, stop, ensure, asked, Axis, unit, units, pairs, from, to, vectorOf, first, second, way, level, only, takesPart, Probe, Found, laid, falls, isLevel, rounds, found}
+use Rattle.laws.specs.Tests.{is-true, both}
+use Rattle.laws.specs.Only.{taking-in}
 use Rattle.laws.specs.Parts.{difference-turned}
 use Rattle.laws.specs.Levels.{levels-eq, from-remains, to-remains}
 use Rattle.laws.specs.Tame.{turned, units-tame}
@@ -25,7 +24,7 @@ use Rattle.laws.specs.Next.{LevelsAnswered}
 use Rattle.laws.specs.Answered.{Among, Both, both-answered, asked-answered, ensured-answered}
 use Rattle.laws.specs.Ended.{Stood, stood-among, falls-stood, end-stood}
 use Rattle.laws.specs.PickParts.{PickParts}
-use Rattle.laws.specs.Answers.{laid, laid-of}
+use Rattle.laws.specs.Answers.{laid-of}
 
 -- ---- the pair (l, k)
 turned-from : (x : Pair) → from (turned x) ≡ to x
@@ -54,63 +53,68 @@ turned-way m x = ap₂ (λ (k l : Axis). vectorOf m k ⊖ vectorOf m l) (turned-
 laid-way : (s : Vector) (m : Triangle) (x : Pair) → way (laid s m) x ≡ lay s (way m x)
 laid-way s m x = ap₂ _⊖_ (laid-of s m (to x)) (laid-of s m (from x)) ∙ sym (lay-difference s (second m x) (first m x))
 
-module _ (look : Vector → Look) (q s : Vector) where
-  -- u and its opposite, at each power
-  pub record BothWays (ls : List ℕ) (t : List Vector) (u : Vector) : Type 0 where
-    pub there : Stood look q ls t u
-    pub back : Stood look q ls t (minus u)
+module _ (c : Probe) where
+  abbrev s : Vector
+  s = c .signs
 
-  level-stood : (ls : List ℕ) (e : Vector) {t : List Vector} → isLevel look q s ls e ≡ answered true t → BothWays ls t (lay s e)
+  -- u and its opposite, at each power
+  pub record BothWays (t : List Vector) (u : Vector) : Type 0 where
+    pub there : Stood c t u
+    pub back : Stood c t (minus u)
+
+  level-stood : (e : Vector) {t : List Vector} → isLevel c e ≡ answered true t → BothWays t (lay s e)
   unfolding isLevel
-  level-stood ls e {t} h = go (a .answer) (asked-answered 0 _ (a .first)) (a .second)
+  level-stood e {t} h = go (a .answer) (asked-answered 0 _ (a .first)) (a .second)
     where
       opposite : Asked Stop Bool
-      opposite = asked 0 (falls look q (lay s e) ls) >>= λ g. ensure (not g) (stop 7 (q ⊕ lay s (minus e)) 0) >> answered true []
+      opposite = asked 0 (falls c (lay s e)) >>= λ g. ensure (not g) (stop 7 (c .apex ⊕ lay s (minus e)) 0) >> answered true []
 
-      a : Both (asked 0 (falls look q (lay s (minus e)) ls)) (λ f. elim f [ true ↦ answered false [] | false ↦ opposite ]) true t
+      a : Both (asked 0 (falls c (lay s (minus e)))) (λ f. elim f [ true ↦ answered false [] | false ↦ opposite ]) true t
       a = both-answered _ _ h
 
-      upward : (g : Bool) {u : List Vector} → falls look q (lay s e) ls ≡ answered g u → T (not g) → Stood look q ls u (lay s e)
+      upward : (g : Bool) {u : List Vector} → falls c (lay s e) ≡ answered g u → T (not g) → Stood c u (lay s e)
       upward true h n = absurd n
-      upward false h n = falls-stood look q (lay s e) ls h
+      upward false h n = falls-stood c (lay s e) h
 
-      go : (f : Bool) → falls look q (lay s (minus e)) ls ≡ answered f (a .front) → _≡_ {A = Asked Stop Bool} (elim f [ true ↦ answered false [] | false ↦ opposite ]) (answered true (a .behind)) → BothWays ls t (lay s e)
+      go : (f : Bool) → falls c (lay s (minus e)) ≡ answered f (a .front) → _≡_ {A = Asked Stop Bool} (elim f [ true ↦ answered false [] | false ↦ opposite ]) (answered true (a .behind)) → BothWays t (lay s e)
       go true h k = absurd (let z : _≡_ {A = ℕ} 0 1 = cc in omega arith)
       go false h k =
-          let b = both-answered (asked 0 (falls look q (lay s e) ls)) _ k in
+          let b = both-answered (asked 0 (falls c (lay s e))) _ k in
           record {
-            there = stood-among look q ls (a .secondAmong) (stood-among look q ls (b .firstAmong) (upward (b .answer) (asked-answered 0 _ (b .first)) (ensured-answered _ _ _ (b .second) .0)));
-            back = rw (← lay-minus s e) (stood-among look q ls (a .firstAmong) (falls-stood look q (lay s (minus e)) ls h));
+            there = stood-among c _ (a .secondAmong) (stood-among c _ (b .firstAmong) (upward (b .answer) (asked-answered 0 _ (b .first)) (ensured-answered _ _ _ (b .second) .0)));
+            back = rw (← lay-minus s e) (stood-among c _ (a .firstAmong) (falls-stood c (lay s (minus e)) h));
           }
 
-  both-among : (ls : List ℕ) {t w : List Vector} {u : Vector} → Among t w → BothWays ls t u → BothWays ls w u
-  both-among ls a h = record { there = stood-among look q ls a (h .there); back = stood-among look q ls a (h .back) }
+  both-among : {t w : List Vector} {u : Vector} → Among t w → BothWays t u → BothWays w u
+  both-among a h = record { there = stood-among c _ a (h .there); back = stood-among c _ a (h .back) }
 
-  module _ {R : ℕ} {f : Found} {t : List Vector} (h : PickParts look q s R f t) where
+  module _ {R : ℕ} {f : Found} {t : List Vector} (h : PickParts c R f t) where
     abbrev v : Levels
     v = h .levels
 
     abbrev m : Triangle
     m = h .walk .end .0
 
-    pub levels-looked : (k : Axis) → T (level (h .levels) k) → BothWays (powers R) t (lay s (unit k))
-    levels-looked k l = let a = h .axis k in both-among (powers R) (a .among) (level-stood (powers R) (unit k) (a .is ∙ ap (λ (b : Bool). answered b (a .voxels)) (is-true (level v k) l)))
+    abbrev ps : List Pair
+    ps = only (takesPart (h .levels)) pairs
 
-    side-stood : (x : Pair) → T (takesPart v x) → Stood look q (powers R) t (lay s (way m x))
-    side-stood x takes =
-        stood-among look q (powers R) (h .walk .among)
-        (end-stood look q s (powers R) (only (takesPart v) pairs) _ 0 units (units-tame .unimodular) (h .walk .walked) x (each-taking (λ y. In y (only (takesPart v) pairs)) v (each-in (only (takesPart v) pairs)) x takes))
+    pub levels-looked : (k : Axis) → T (level (h .levels) k) → BothWays t (lay (c .signs) (unit k))
+    levels-looked k l = let a = h .axis k in both-among (a .among) (level-stood (unit k) (a .is ∙ ap (λ (b : Bool). answered b (a .voxels)) (is-true (level v k) l)))
+
+    side-stood : (x : Pair) → T (takesPart v x) → Stood c t (lay s (way m x))
+    unfolding rounds
+    side-stood x takes = stood-among c _ (h .walk .among) (end-stood c ps _ 0 units (units-tame .unimodular) (h .walk .walked) x (taking-in v x takes))
 
     sides-way : (x : Pair) → way (f .triangle) x ≡ lay s (way m x)
     unfolding found
     sides-way x = ap (λ (f : Found). way (f .triangle) x) (h .walk .is) ∙ laid-way s m x
 
-    pub sides-looked : (x : Pair) → T (takesPart (h .levels) x) → BothWays (powers R) t (way (f .triangle) x)
+    pub sides-looked : (x : Pair) → T (takesPart (h .levels) x) → BothWays t (way (f .triangle) x)
     sides-looked x takes = rw (sides-way x) (record {
       there = side-stood x takes;
       back = rw (← lay-minus s (way m x), ← turned-way m x) (side-stood (turned x) (turned-takes v x takes));
     })
 
     -- the axes asked alone settle which are level
-    pub parts-levels : {w : Levels} → LevelsAnswered look q s (powers R) w → h .levels ≡ w
+    pub parts-levels : {w : Levels} → LevelsAnswered c w → h .levels ≡ w
     parts-levels asked = levels-eq (λ k. let e = sym (h .axis k .is) ∙ asked k .1 in cc)

@@ -1,13 +1,12 @@
 -- The box of a solid: a look is outside exactly outside the box, and the box of a permitted solid lies in a cube of side 1024, a stack's of side 256.
 use mathlib.Core.Path.{_≡_, refl}
-use mathlib.Core.Bool.{Bool, true, false, not, _&&_}
+use mathlib.Core.Bool.{Bool, true, false, not}
 use mathlib.Core.List.{List}
 use Prim.Native.Nat.{ℕ, suc}
 use native.Mathlib.Omega.{arith}
 use lib.Dec.{T, leb, lit≤}
 use lib.IntN.{ℤ, pos}
-use lib.ListN.{length}
-use lib.Signed.{_≤ℤ_, _<ℤ_, leZ, ltZ, leZ-yes, ltZ-yes}
+use lib.Signed.{_≤ℤ_, leZ-yes}
 use Rattle.integers.specs.Order.{parts}
 use Rattle.rules.specs.declared.Vector.{Vector}
 use Rattle.rules.specs.declared.Stack.{Stack}
@@ -20,17 +19,19 @@ use Rattle.rules.specs.declared.Choice.{Choice}
 use Rattle.rules.specs.declared.Choice.the-variants.{Chosen}
 use Rattle.rules.specs.Vectors.{vector}
 use Rattle.rules.specs.Asked.{answered}
-use Rattle.rules.specs.Walk.{powers, units, step, round}
-use Rattle.rules.specs.Solids.{between, permittedSize, stackBytes, permittedStack, permitted, box, inSide, inBox, filled, seenAs, look}
+use Rattle.rules.specs.Walk.{powers, units, step, Probe, round}
+use Rattle.rules.specs.Solids.{permittedStack, permitted, box, inBox, filled, seenAs, look}
 use Rattle.rules.specs.Pick.{isInside}
-use Rattle.laws.specs.Tests.{In, first-of, second-of}
+use Rattle.range.specs.Ranges.{InSide, in-sides}
+use Rattle.stack.specs.Sides.{sized, side-high}
+use Rattle.laws.specs.Tests.{is-true, In}
 use Rattle.laws.specs.Parts.{Parts}
 use Rattle.laws.specs.Triples.{All}
 use Rattle.laws.specs.Frames.{Signs}
 use Rattle.laws.specs.Says.{says-answered}
 use Rattle.laws.specs.Looks.{As, round-says}
 use Rattle.laws.specs.Chosen.{chosen-in}
-use Rattle.laws.specs.Ranges.{Between, InCube, Bounded, step-within}
+use Rattle.laws.specs.Ranges.{Between, InCube, Bounded, powers-begin, step-within}
 
 -- ---- a look and the box
 seen-inside : (i f : Bool) → isInside (seenAs i f) ≡ i
@@ -60,36 +61,14 @@ unfolding look
 look-told solid bytes p b e = seen-told (inBox (box solid) p) (filled solid bytes p) b e
 
 -- ---- cubes
-pub between-yes : (low x high : ℤ) → T (between low x high) → (low ≤ℤ x) × (x ≤ℤ high)
-unfolding between
-between-yes low x high t = (leZ-yes (first-of (leZ low x) (leZ x high) t), leZ-yes (second-of (leZ low x) (leZ x high) t))
-
-in-side : (M : ℕ) (side x : ℤ) → side ≤ℤ pos (suc M) → T (inSide side x) → Between M x
-in-side M side x h t =
-    let low : pos 0 ≤ℤ x = leZ-yes (first-of (leZ (pos 0) x) (ltZ x side) t) in
-    let high : x <ℤ side = ltZ-yes (second-of (leZ (pos 0) x) (ltZ x side) t) in
-    record { low = low; high = omega (arith, parts) }
-
 pub in-cube : (M : ℕ) (sides p : Vector) → Parts (λ side. side ≤ℤ pos (suc M)) sides → T (inBox sides p) → InCube M p
-unfolding inBox
-in-cube M sides p h t =
-    let yz = second-of (inSide (sides .x) (p .x)) (inSide (sides .y) (p .y) && inSide (sides .z) (p .z)) t in
-    record {
-      ofX = in-side M (sides .x) (p .x) (h .ofX) (first-of (inSide (sides .x) (p .x)) (inSide (sides .y) (p .y) && inSide (sides .z) (p .z)) t);
-      ofY = in-side M (sides .y) (p .y) (h .ofY) (first-of (inSide (sides .y) (p .y)) (inSide (sides .z) (p .z)) yz);
-      ofZ = in-side M (sides .z) (p .z) (h .ofZ) (second-of (inSide (sides .y) (p .y)) (inSide (sides .z) (p .z)) yz);
-    }
+in-cube M sides p h t = let i = in-sides sides p t in record { ofX = below (h .ofX) (i .of-x); ofY = below (h .ofY) (i .of-y); ofZ = below (h .ofZ) (i .of-z) }
+  where
+    below : {side x : ℤ} → side ≤ℤ pos (suc M) → InSide side x → Between M x
+    below h i = record { low = i .low; high = omega (arith, parts) }
 
 stack-sides : (k : Stack) (bytes : List ℕ) → T (permittedStack k bytes) → Parts (λ side. side ≤ℤ pos 256) (box (IsStack k))
-unfolding permittedStack
-stack-sides k bytes t =
-    let d = permittedSize (k .depth) && leb (stackBytes k) (length bytes) in
-    let hd = second-of (permittedSize (k .width)) (permittedSize (k .height) && d) t in
-    record {
-      ofX = between-yes (pos 1) (k .width) (pos 256) (first-of (permittedSize (k .width)) (permittedSize (k .height) && d) t) .1;
-      ofY = between-yes (pos 1) (k .height) (pos 256) (first-of (permittedSize (k .height)) d hd) .1;
-      ofZ = between-yes (pos 1) (k .depth) (pos 256) (first-of (permittedSize (k .depth)) (leb (stackBytes k) (length bytes)) (second-of (permittedSize (k .height)) d hd)) .1;
-    }
+stack-sides k bytes t = let s = sized (is-true (permittedStack k bytes) t) .of in record { ofX = side-high (s .wide); ofY = side-high (s .high); ofZ = side-high (s .deep) }
 
 pub stack-cube : (k : Stack) (bytes : List ℕ) → T (permittedStack k bytes) → (p : Vector) → T (isInside (look (IsStack k) bytes p)) → InCube 255 p
 stack-cube k bytes t p i = in-cube 255 (box (IsStack k)) p (stack-sides k bytes t) (rw (look-inside (IsStack k) bytes p) at i)
@@ -112,10 +91,17 @@ units-within = record { of0 = small 1 0 0 tt tt tt; of1 = small 0 1 0 tt tt tt; 
     small : (a b c : ℕ) → T (leb a 1023) → T (leb b 1023) → T (leb c 1023) → Bounded 1023 (vector (pos a) (pos b) (pos c))
     small a b c h k l = record { in-x = record { size = lit≤ h }; in-y = record { size = lit≤ k }; in-z = record { size = lit≤ l } }
 
-module _ (solid : Solid) (bytes : List ℕ) (q s : Vector) (R : ℕ) (ps : List Pair) (m : Triangle) {t : List Vector} (ok : T (permitted solid bytes)) (inside : T (isInside (look solid bytes q))) (signed : Signs s) where
-  pub triangle-within : {c : Choice} → round (look solid bytes) q s (powers R) ps m ≡ answered c t → All (Bounded 1023) m → (x : Pair) → In x ps → All (Bounded 1023) (step m x)
-  triangle-within e h x i = step-within (look solid bytes) 1023 (solid-cube solid bytes ok) q s (solid-cube solid bytes ok q inside) signed R ps m e h x i
+-- what a walk on a solid is about
+abbrev pub probeOn : Solid → List ℕ → Vector → Vector → ℕ → Probe
+probeOn solid bytes q s R = record { look = look solid bytes; apex = q; signs = s; powers = powers R }
+
+module _ (solid : Solid) (bytes : List ℕ) (q s : Vector) (R : ℕ) (ps : List Pair) (m : Triangle) (ok : T (permitted solid bytes)) (inside : T (isInside (look solid bytes q))) (signed : Signs s) where
+  abbrev c : Probe
+  c = probeOn solid bytes q s R
+
+  pub triangle-within : {y : Choice} {t : List Vector} → round (probeOn solid bytes q s R) ps m ≡ answered y t → All (Bounded 1023) m → (x : Pair) → In x ps → All (Bounded 1023) (step m x)
+  triangle-within e h x i = step-within c 1023 (solid-cube solid bytes ok) (solid-cube solid bytes ok q inside) signed (powers-begin R .0) (powers-begin R .1) ps m e h x i
 
   -- so by the pair that the round chose
-  pub chosen-within : (x : Pair) → round (look solid bytes) q s (powers R) ps m ≡ answered (Chosen x) t → All (Bounded 1023) m → All (Bounded 1023) (step m x)
-  chosen-within x e h = triangle-within e h x (chosen-in (look solid bytes) q s (powers R) m ps x (says-answered (round-says (look solid bytes) q s (powers R) ps m) e .holds))
+  pub chosen-within : (x : Pair) {t : List Vector} → round (probeOn solid bytes q s R) ps m ≡ answered (Chosen x) t → All (Bounded 1023) m → All (Bounded 1023) (step m x)
+  chosen-within x e h = triangle-within e h x (chosen-in c m ps x (says-answered (round-says c ps m) e .holds))

@@ -8,157 +8,155 @@ use Prim.Native.Nat.{ℕ, zero, suc}
 use native.Mathlib.Omega.{arith}
 use lib.IntN.{pos}
 use Rattle.rules.specs.declared.Vector.{Vector}
-use Rattle.rules.specs.declared.Look.{Look}
-use Rattle.rules.specs.declared.Look.the-variants.{Filled, Empty, Outside}
+use Rattle.rules.specs.declared.Look.the-variants.{Empty}
 use Rattle.rules.specs.declared.Triangle.{Triangle}
 use Rattle.rules.specs.declared.Pair.{Pair}
 use Rattle.rules.specs.declared.Choice.{Choice}
 use Rattle.rules.specs.declared.Choice.the-variants.{Nothing, Chosen}
 use Rattle.rules.specs.Vectors.{_⊕_, scale, lay}
 use Rattle.rules.specs.Asked.{Asked, answered, refused, after, _>>=_}
-use Rattle.rules.specs.Walk.{Stop, stop, asked, seen, lookAt, falls, falling, round, walk, way, step, keep, firstFree, choice}
+use Rattle.rules.specs.Walk.{Stop, stop, asked, Probe, lookAt, fallsAt, falls, falling, round, walk, way, step, keep, firstFree, choice}
 use Rattle.laws.specs.Tests.{In}
 use Rattle.laws.specs.Only.{each-in}
 use Rattle.laws.specs.Triples.{detOf, step-det}
 use Rattle.laws.specs.Tame.{units-tame}
 use Rattle.laws.specs.Choosing.{Chose, choice-is, choice-exists}
 use Rattle.laws.specs.Says.{says-answered}
-use Rattle.laws.specs.Looks.{RoundOf, round-says}
+use Rattle.laws.specs.Looks.{look-says, RoundOf, round-says}
 use Rattle.laws.specs.Next.{Reached}
 use Rattle.laws.specs.Answered.{Among, Both, both-answered, asked-answered}
 
-module _ (look : Vector → Look) (q : Vector) where
-  -- the voxel at l times u from q is among those looked at, and empty
+module _ (c : Probe) where
+  -- the voxel at l times u from the apex is among those looked at, and empty
   pub record StoodAt (t : List Vector) (u : Vector) (l : ℕ) : Type 0 where
-    pub looked : In (q ⊕ scale (pos l) u) t
-    pub empty : look (q ⊕ scale (pos l) u) ≡ Empty
+    pub looked : In (c .apex ⊕ scale (pos l) u) t
+    pub empty : c .look (c .apex ⊕ scale (pos l) u) ≡ Empty
 
-  -- at each of the powers
-  abbrev pub Stood : List ℕ → List Vector → Vector → Type 0
-  Stood ls t u = (l : ℕ) → In l ls → StoodAt t u l
+  -- at each power
+  abbrev pub Stood : List Vector → Vector → Type 0
+  Stood t u = (l : ℕ) → In l (c .powers) → StoodAt t u l
 
-  pub stood-among : (ls : List ℕ) {s t : List Vector} {u : Vector} → Among s t → Stood ls s u → Stood ls t u
-  stood-among ls a h l i = record { looked = a .each _ (h l i .looked); empty = h l i .empty }
+  stood-there : {s t : List Vector} {u : Vector} {l : ℕ} → Among s t → StoodAt s u l → StoodAt t u l
+  stood-there a h = record { looked = a .each _ (h .looked); empty = h .empty }
 
-  look-empty : (p : Vector) {t : List Vector} → lookAt look p ≡ answered false t → In p t × (look p ≡ Empty)
-  unfolding lookAt seen
-  look-empty p {t} e = go (look p) refl e
-    where
-      go : (x : Look) → look p ≡ x → seen x p ≡ answered false t → In p t × (look p ≡ Empty)
-      go Filled f e = absurd (let z : _≡_ {A = ℕ} 0 1 = cc in omega arith)
-      go Empty f e = let t-is : p ∷ [] ≡ t = cc in (subst (In p) t-is (inl refl), f)
-      go Outside f e = absurd (let z : _≡_ {A = ℕ} 0 1 = cc in omega arith)
+  pub stood-among : {s t : List Vector} (u : Vector) → Among s t → Stood s u → Stood t u
+  stood-among u a h l i = stood-there a (h l i)
+
+  look-empty : (p : Vector) {t : List Vector} → lookAt (c .look) p ≡ answered false t → In p t × (c .look p ≡ Empty)
+  look-empty p e = let h = says-answered (look-says c p) e in (rw (h .1) (inl refl), h .0)
 
   -- a vector that did not fall
-  pub falls-stood : (u : Vector) (ls : List ℕ) {t : List Vector} → falls look q u ls ≡ answered false t → Stood ls t u
-  unfolding falls
-  falls-stood u [] e l i = absurd i
-  falls-stood u (k ∷ ls) {t} e l i = go (b .answer) (b .first) (b .second) (λ c. falls-stood u ls c) i
+  stood-at : (u : Vector) (ls : List ℕ) {t : List Vector} → fallsAt (c .look) (c .apex) u ls ≡ answered false t → (l : ℕ) → In l ls → StoodAt t u l
+  unfolding fallsAt
+  stood-at u [] e l i = absurd i
+  stood-at u (k ∷ ls) {t} e l i = go (b .answer) (b .first) (b .second) (λ d. stood-at u ls d l) i
     where
-      b : Both (lookAt look (q ⊕ scale (pos k) u)) (λ f. elim f [ true ↦ answered true [] | false ↦ falls look q u ls ]) false t
+      b : Both (lookAt (c .look) (c .apex ⊕ scale (pos k) u)) (λ f. elim f [ true ↦ answered true [] | false ↦ fallsAt (c .look) (c .apex) u ls ]) false t
       b = both-answered _ _ e
 
-      go : (f : Bool) → lookAt look (q ⊕ scale (pos k) u) ≡ answered f (b .front) → _≡_ {A = Asked Vector Bool} (elim f [ true ↦ answered true [] | false ↦ falls look q u ls ]) (answered false (b .behind))
-          → (falls look q u ls ≡ answered false (b .behind) → Stood ls (b .behind) u) → In l (k ∷ ls) → StoodAt t u l
-      go true a c r i = absurd (let z : _≡_ {A = ℕ} 0 1 = cc in omega arith)
-      go false a c r (inl p) = let h = look-empty _ a in rw p (record { looked = b .firstAmong .each _ (h .0); empty = h .1 })
-      go false a c r (inr i) = stood-among ls (b .secondAmong) (r c) l i
+      go : (f : Bool) → lookAt (c .look) (c .apex ⊕ scale (pos k) u) ≡ answered f (b .front) → _≡_ {A = Asked Vector Bool} (elim f [ true ↦ answered true [] | false ↦ fallsAt (c .look) (c .apex) u ls ]) (answered false (b .behind))
+          → (fallsAt (c .look) (c .apex) u ls ≡ answered false (b .behind) → In l ls → StoodAt (b .behind) u l) → In l (k ∷ ls) → StoodAt t u l
+      go true a d r i = absurd (let z : _≡_ {A = ℕ} 0 1 = cc in omega arith)
+      go false a d r (inl p) = let h = look-empty _ a in rw p (record { looked = b .firstAmong .each _ (h .0); empty = h .1 })
+      go false a d r (inr i) = stood-there (b .secondAmong) (r d i)
 
-  module _ (s : Vector) (ls : List ℕ) where
-    -- of a round no pair fell
-    pub none-stood : (m : Triangle) (xs : List Pair) {fs : List Pair} {t : List Vector} → falling look q s ls m xs ≡ answered fs t → fs ≡ [] → (x : Pair) → In x xs → Stood ls t (lay s (way m x))
-    unfolding falling keep
-    none-stood m [] e n x i = absurd i
-    none-stood m (y ∷ ys) {fs} {t} e n x i = go (b .answer) (b .first) keeps (λ k. none-stood m ys (c .first) k x) i
-      where
-        b : Both (falls look q (lay s (way m y)) ls) (λ f. falling look q s ls m ys >>= λ r. answered (keep f y r) []) fs t
-        b = both-answered _ _ e
+  pub falls-stood : (u : Vector) {t : List Vector} → falls c u ≡ answered false t → Stood t u
+  falls-stood u e = stood-at u (c .powers) e
 
-        c : Both (falling look q s ls m ys) (λ r. answered (keep (b .answer) y r) []) fs (b .behind)
-        c = both-answered _ _ (b .second)
+  abbrev laidWay : Triangle → Pair → Vector
+  laidWay m x = lay (c .signs) (way m x)
 
-        keeps : keep (b .answer) y (c .answer) ≡ []
-        keeps = let is : keep (b .answer) y (c .answer) ≡ fs = let k = c .second in cc in is ∙ n
+  -- of a round no pair fell
+  none-stood : (m : Triangle) (xs : List Pair) {fs : List Pair} {t : List Vector} → falling c m xs ≡ answered fs t → fs ≡ [] → (x : Pair) → In x xs → Stood t (laidWay m x)
+  unfolding falling keep
+  none-stood m [] e n x i = absurd i
+  none-stood m (y ∷ ys) {fs} {t} e n x i = go (b .answer) (b .first) keeps (λ k. none-stood m ys (d .first) k x) i
+    where
+      b : Both (falls c (laidWay m y)) (λ f. falling c m ys >>= λ r. answered (keep f y r) []) fs t
+      b = both-answered _ _ e
 
-        go : (f : Bool) → falls look q (lay s (way m y)) ls ≡ answered f (b .front) → keep f y (c .answer) ≡ [] → (c .answer ≡ [] → In x ys → Stood ls (c .front) (lay s (way m x)))
-            → In x (y ∷ ys) → Stood ls t (lay s (way m x))
-        go true a k r i = absurd (let z : _≡_ {A = ℕ} 0 1 = cc in omega arith)
-        go false a k r (inl p) = rw p (stood-among ls (b .firstAmong) (falls-stood (lay s (way m y)) ls a))
-        go false a k r (inr i) = stood-among ls (b .secondAmong) (stood-among ls (c .firstAmong) (r k i))
+      d : Both (falling c m ys) (λ r. answered (keep (b .answer) y r) []) fs (b .behind)
+      d = both-answered _ _ (b .second)
 
-    module _ (ps : List Pair) where
-      -- ---- every triangle that a walk meets has determinant 1
-      pub reached-determinant : (n : ℕ) (m : Triangle) → Reached look q s ls ps n m → detOf m ≡ pos 1
-      reached-determinant zero m e = ap detOf e ∙ units-tame .unimodular
-      reached-determinant (suc n) m r = ap detOf (r .4) ∙ step-det (r .0) (r .1) ∙ reached-determinant n (r .0) (r .2)
+      keeps : keep (b .answer) y (d .answer) ≡ []
+      keeps = let is : keep (b .answer) y (d .answer) ≡ fs = let k = d .second in cc in is ∙ n
 
-      -- where a pair falls: refusal 9, or a step and the rounds after it
-      abbrev pub goesOn : ℕ → ℕ → Triangle → Pair → Asked Stop (Triangle × ℕ)
-      goesOn zero n m x = refused (stop 9 q n) []
-      goesOn (suc left) n m x = walk look q s ls ps left (suc n) (step m x)
+      go : (f : Bool) → falls c (laidWay m y) ≡ answered f (b .front) → keep f y (d .answer) ≡ [] → (d .answer ≡ [] → In x ys → Stood (d .front) (laidWay m x)) → In x (y ∷ ys) → Stood t (laidWay m x)
+      go true a k r i = absurd (let z : _≡_ {A = ℕ} 0 1 = cc in omega arith)
+      go false a k r (inl p) = rw p (stood-among _ (b .firstAmong) (falls-stood (laidWay m y) a))
+      go false a k r (inr i) = stood-among _ (b .secondAmong) (stood-among _ (d .firstAmong) (r k i))
 
-      abbrev rest : ℕ → ℕ → Triangle → Choice → Asked Stop (Triangle × ℕ)
-      rest left n m = λ c. elim c [ Nothing ↦ answered (m, n) [] | Chosen x ↦ goesOn left n m x ]
+  module _ (ps : List Pair) where
+    -- ---- every triangle that a walk meets has determinant 1
+    pub reached-determinant : (n : ℕ) (m : Triangle) → Reached c ps n m → detOf m ≡ pos 1
+    reached-determinant zero m e = ap detOf e ∙ units-tame .unimodular
+    reached-determinant (suc n) m r = ap detOf (r .4) ∙ step-det (r .0) (r .1) ∙ reached-determinant n (r .0) (r .2)
 
-      walk-text : (left n : ℕ) (m : Triangle) → walk look q s ls ps left n m ≡ (asked n (round look q s ls ps m) >>= rest left n m)
-      unfolding walk
-      walk-text zero n m = refl
-      walk-text (suc left) n m = refl
+    -- where a pair falls: refusal 9, or a step and the rounds after it
+    abbrev pub goesOn : ℕ → ℕ → Triangle → Pair → Asked Stop (Triangle × ℕ)
+    goesOn zero n m x = refused (stop 9 (c .apex) n) []
+    goesOn (suc left) n m x = walk c ps left (suc n) (step m x)
 
-      -- the round at m after n steps, in which the pairs fs fell: the walk ends there exactly if none did
-      pub record EndsIfNoneFalls (left n : ℕ) (m : Triangle) (fs : List Pair) (t : List Vector) : Type 0 where
-        pub determinant : detOf m ≡ pos 1
-        pub ends : fs ≡ [] → walk look q s ls ps left n m ≡ answered (m, n) t
-        pub goes : (fs ≡ [] → ⊥) → (x : Pair) × In x fs × (walk look q s ls ps left n m ≡ after t (goesOn left n m x)) × Reached look q s ls ps (suc n) (step m x)
+    abbrev rest : ℕ → ℕ → Triangle → Choice → Asked Stop (Triangle × ℕ)
+    rest left n m = λ chosen. elim chosen [ Nothing ↦ answered (m, n) [] | Chosen x ↦ goesOn left n m x ]
 
-      module _ (n : ℕ) (m : Triangle) (r : Reached look q s ls ps n m) {fs : List Pair} {t : List Vector} (e : falling look q s ls m ps ≡ answered fs t) where
-        round-is : round look q s ls ps m ≡ answered (choice m fs) t
-        unfolding round _>>=_ after
-        round-is = rw e (ap (answered (choice m fs)) (append-nil t))
+    walk-text : (left n : ℕ) (m : Triangle) → walk c ps left n m ≡ (asked n (round c ps m) >>= rest left n m)
+    unfolding walk
+    walk-text zero n m = refl
+    walk-text (suc left) n m = refl
 
-        walk-is : (left : ℕ) (c : Choice) → choice m fs ≡ c → walk look q s ls ps left n m ≡ after t (rest left n m c)
-        unfolding asked _>>=_
-        walk-is left c f = walk-text left n m ∙ rw round-is (ap (λ (c : Choice). after t (rest left n m c)) f)
+    -- the round at m after n steps, in which the pairs fs fell: the walk ends there exactly if none did
+    pub record EndsIfNoneFalls (left n : ℕ) (m : Triangle) (fs : List Pair) (t : List Vector) : Type 0 where
+      pub determinant : detOf m ≡ pos 1
+      pub ends : fs ≡ [] → walk c ps left n m ≡ answered (m, n) t
+      pub goes : (fs ≡ [] → ⊥) → (x : Pair) × In x fs × (walk c ps left n m ≡ after t (goesOn left n m x)) × Reached c ps (suc n) (step m x)
 
-        pub walk-ends : (left : ℕ) → EndsIfNoneFalls left n m fs t
-        unfolding after choice firstFree
-        walk-ends left = record { determinant = one; ends = ends; goes = goes }
-          where
-            one : detOf m ≡ pos 1
-            one = reached-determinant n m r
+    module _ (n : ℕ) (m : Triangle) (r : Reached c ps n m) {fs : List Pair} {t : List Vector} (e : falling c m ps ≡ answered fs t) where
+      round-is : round c ps m ≡ answered (choice m fs) t
+      unfolding round _>>=_ after
+      round-is = rw e (ap (answered (choice m fs)) (append-nil t))
 
-            ends : fs ≡ [] → walk look q s ls ps left n m ≡ answered (m, n) t
-            ends f = walk-is left Nothing (rw f refl) ∙ ap (answered (m, n)) (append-nil t)
+      walk-is : (left : ℕ) (x : Choice) → choice m fs ≡ x → walk c ps left n m ≡ after t (rest left n m x)
+      unfolding asked _>>=_
+      walk-is left x f = walk-text left n m ∙ rw round-is (ap (λ (x : Choice). after t (rest left n m x)) f)
 
-            goes : (fs ≡ [] → ⊥) → (x : Pair) × In x fs × (walk look q s ls ps left n m ≡ after t (goesOn left n m x)) × Reached look q s ls ps (suc n) (step m x)
-            goes some = go (choice m fs) refl (choice-is (λ x. In x fs) m fs (each-in fs))
-              where
-                go : (c : Choice) → choice m fs ≡ c → Chose (λ x. In x fs) (Unit {0}) c
-                    → (x : Pair) × In x fs × (walk look q s ls ps left n m ≡ after t (goesOn left n m x)) × Reached look q s ls ps (suc n) (step m x)
-                go Nothing f i = absurd (some (choice-exists m one fs f))
-                go (Chosen x) f i = (x, i, walk-is left (Chosen x) f, (m, x, r, subst (RoundOf look q s ls ps m) f (says-answered (round-says look q s ls ps m) round-is .holds), refl))
-
-      -- ---- a walk that ended has looked at each way of its triangle, at each power
-      last-round : (m : Triangle) → detOf m ≡ pos 1 → {t : List Vector} → round look q s ls ps m ≡ answered Nothing t → (x : Pair) → In x ps → Stood ls t (lay s (way m x))
-      unfolding round
-      last-round m d e x i =
-          let b = both-answered (falling look q s ls m ps) (λ fs. answered (choice m fs) []) e in
-          let is : choice m (b .answer) ≡ Nothing = let k = b .second in cc in
-          stood-among ls (b .firstAmong) (none-stood m ps (b .first) (choice-exists m d (b .answer) is) x i)
-
-      -- in this round or in a later one
-      ended : (n : ℕ) (m : Triangle) → detOf m ≡ pos 1 → (x : Pair) → In x ps → (e : Triangle × ℕ) (t : List Vector) (left : ℕ) → walk look q s ls ps left n m ≡ answered e t
-          → ((y : Pair) (u : List Vector) → goesOn left n m y ≡ answered e u → Stood ls u (lay s (way (e .0) x))) → Stood ls t (lay s (way (e .0) x))
-      ended n m d x i e t left w later = go (b .answer) (asked-answered n _ (b .first)) (b .second)
+      pub walk-ends : (left : ℕ) → EndsIfNoneFalls left n m fs t
+      unfolding after choice firstFree
+      walk-ends left = record { determinant = one; ends = ends; goes = goes }
         where
-          b : Both (asked n (round look q s ls ps m)) (rest left n m) e t
-          b = both-answered _ _ (sym (walk-text left n m) ∙ w)
+          one : detOf m ≡ pos 1
+          one = reached-determinant n m r
 
-          go : (c : Choice) → round look q s ls ps m ≡ answered c (b .front) → rest left n m c ≡ answered e (b .behind) → Stood ls t (lay s (way (e .0) x))
-          go Nothing a k = let is : (m, n) ≡ e = cc in subst (λ (e : Triangle × ℕ). Stood ls t (lay s (way (e .0) x))) is (stood-among ls (b .firstAmong) (last-round m d a x i))
-          go (Chosen y) a k = stood-among ls (b .secondAmong) (later y _ k)
+          ends : fs ≡ [] → walk c ps left n m ≡ answered (m, n) t
+          ends f = walk-is left Nothing (rw f refl) ∙ ap (answered (m, n)) (append-nil t)
 
-      pub end-stood : (left n : ℕ) (m : Triangle) → detOf m ≡ pos 1 → {e : Triangle × ℕ} {t : List Vector} → walk look q s ls ps left n m ≡ answered e t
-          → (x : Pair) → In x ps → Stood ls t (lay s (way (e .0) x))
-      end-stood zero n m d {e} {t} w x i = ended n m d x i e t zero w (λ y u k. absurd (let z : _≡_ {A = ℕ} 0 1 = cc in omega arith))
-      end-stood (suc left) n m d {e} {t} w x i = ended n m d x i e t (suc left) w (λ y u k. end-stood left (suc n) (step m y) (step-det m y ∙ d) k x i)
+          goes : (fs ≡ [] → ⊥) → (x : Pair) × In x fs × (walk c ps left n m ≡ after t (goesOn left n m x)) × Reached c ps (suc n) (step m x)
+          goes some = go (choice m fs) refl (choice-is (λ x. In x fs) m fs (each-in fs))
+            where
+              go : (y : Choice) → choice m fs ≡ y → Chose (λ x. In x fs) (Unit {0}) y → (x : Pair) × In x fs × (walk c ps left n m ≡ after t (goesOn left n m x)) × Reached c ps (suc n) (step m x)
+              go Nothing f i = absurd (some (choice-exists m one fs f))
+              go (Chosen x) f i = (x, i, walk-is left (Chosen x) f, (m, x, r, subst (RoundOf c ps m) f (says-answered (round-says c ps m) round-is .holds), refl))
+
+    -- ---- a walk that ended has looked at each way of its triangle, at each power
+    last-round : (m : Triangle) → detOf m ≡ pos 1 → {t : List Vector} → round c ps m ≡ answered Nothing t → (x : Pair) → In x ps → Stood t (laidWay m x)
+    unfolding round
+    last-round m d e x i =
+        let b = both-answered (falling c m ps) (λ fs. answered (choice m fs) []) e in
+        let is : choice m (b .answer) ≡ Nothing = let k = b .second in cc in
+        stood-among _ (b .firstAmong) (none-stood m ps (b .first) (choice-exists m d (b .answer) is) x i)
+
+    -- in this round or in a later one
+    ended : (n : ℕ) (m : Triangle) → detOf m ≡ pos 1 → (x : Pair) → In x ps → (e : Triangle × ℕ) (t : List Vector) (left : ℕ) → walk c ps left n m ≡ answered e t
+        → ((y : Pair) (u : List Vector) → goesOn left n m y ≡ answered e u → Stood u (laidWay (e .0) x)) → Stood t (laidWay (e .0) x)
+    ended n m d x i e t left w later = go (b .answer) (asked-answered n _ (b .first)) (b .second)
+      where
+        b : Both (asked n (round c ps m)) (rest left n m) e t
+        b = both-answered _ _ (sym (walk-text left n m) ∙ w)
+
+        go : (y : Choice) → round c ps m ≡ answered y (b .front) → rest left n m y ≡ answered e (b .behind) → Stood t (laidWay (e .0) x)
+        go Nothing a k = let is : (m, n) ≡ e = cc in subst (λ (e : Triangle × ℕ). Stood t (laidWay (e .0) x)) is (stood-among _ (b .firstAmong) (last-round m d a x i))
+        go (Chosen y) a k = stood-among _ (b .secondAmong) (later y _ k)
+
+    pub end-stood : (left n : ℕ) (m : Triangle) → detOf m ≡ pos 1 → {e : Triangle × ℕ} {t : List Vector} → walk c ps left n m ≡ answered e t → (x : Pair) → In x ps → Stood t (lay (c .signs) (way (e .0) x))
+    end-stood zero n m d {e} {t} w x i = ended n m d x i e t zero w (λ y u k. absurd (let z : _≡_ {A = ℕ} 0 1 = cc in omega arith))
+    end-stood (suc left) n m d {e} {t} w x i = ended n m d x i e t (suc left) w (λ y u k. end-stood left (suc n) (step m y) (step-det m y ∙ d) k x i)

@@ -9,6 +9,7 @@ pub mod Generators
 pub mod Tame
 pub mod Sphere
 pub mod Choosing
+pub mod Tally
 pub mod Says
 pub mod Looks
 pub mod Chosen
@@ -22,6 +23,7 @@ pub mod Walks
 pub mod Frames
 pub mod Ranges
 pub mod Boxes
+pub mod PickRule
 pub mod Picks
 pub mod Answers
 pub mod BothWays

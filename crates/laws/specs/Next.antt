@@ -7,7 +7,6 @@ use Prim.Native.Nat.{ℕ, zero, suc}
 use lib.Dec.{T}
 use lib.IntN.{pos}
 use Rattle.rules.specs.declared.Vector.{Vector}
-use Rattle.rules.specs.declared.Look.{Look}
 use Rattle.rules.specs.declared.Look.the-variants.{Outside}
 use Rattle.rules.specs.declared.Levels.{Levels}
 use Rattle.rules.specs.declared.Triangle.{Triangle}
@@ -15,35 +14,35 @@ use Rattle.rules.specs.declared.Pair.{Pair}
 use Rattle.rules.specs.declared.Choice.the-variants.{Chosen}
 use Rattle.rules.specs.Vectors.{_⊕_, minus, scale, lay}
 use Rattle.rules.specs.Asked.{answered, refused}
-use Rattle.rules.specs.Walk.{Stop, stop, Axis, unit, units, pairs, way, step, level, only, takesPart, falls, isLevel}
+use Rattle.rules.specs.Walk.{Stop, stop, Probe, Axis, unit, units, pairs, way, step, level, only, takesPart, falls, isLevel}
 use Rattle.laws.specs.Tests.{In}
 use Rattle.laws.specs.Looks.{Fell, Stopped, RoundOf}
 
-module _ (look : Vector → Look) (q s : Vector) (ls : List ℕ) where
+module _ (c : Probe) where
   -- each axis was asked, and v has those that are level
   abbrev pub LevelsAnswered : Levels → Type 0
-  LevelsAnswered v = (k : Axis) → (voxels : List Vector) × (isLevel look q s ls (unit k) ≡ answered (level v k) voxels)
+  LevelsAnswered v = (k : Axis) → (voxels : List Vector) × (isLevel c (unit k) ≡ answered (level v k) voxels)
 
   -- the triangle that the walk of the pairs ps has reached after n steps, each by the pair that a round chose
   abbrev pub Reached : List Pair → ℕ → Triangle → Type 0
   Reached ps zero m = m ≡ units
-  Reached ps (suc n) m = (k : Triangle) × (x : Pair) × Reached ps n k × RoundOf look q s ls ps k (Chosen x) × (m ≡ step k x)
+  Reached ps (suc n) m = (k : Triangle) × (x : Pair) × Reached ps n k × RoundOf c ps k (Chosen x) × (m ≡ step k x)
 
   -- why it is asked, after n steps, whether u falls
   pub data Question (n : ℕ) (u : Vector) : Type 0 where
     downward : (k : Axis) → n ≡ 0 → u ≡ minus (unit k) → Question n u
-    opposite : (k : Axis) → n ≡ 0 → u ≡ unit k → Fell look q (lay s (minus (unit k))) ls false → Question n u
+    opposite : (k : Axis) → n ≡ 0 → u ≡ unit k → Fell c (minus (unit k)) false → Question n u
     sideways : (v : Levels) → LevelsAnswered v → (m : Triangle) → Reached (only (takesPart v) pairs) n m → (x : Pair) → T (takesPart v x) → u ≡ way m x → Question n u
 
   pub record NextLook (r : Stop) : Type 0 where
     pub vector : Vector
     pub question : Question (r .steps) vector
     pub voxels : List Vector
-    pub stops : falls look q (lay s vector) ls ≡ refused (r .place) voxels
+    pub stops : falls c (lay (c .signs) vector) ≡ refused (r .place) voxels
     pub power : ℕ
-    pub isPower : In power ls
-    pub is : r .place ≡ q ⊕ scale (pos power) (lay s vector)
-    pub outside : look (r .place) ≡ Outside
+    pub isPower : In power (c .powers)
+    pub is : r .place ≡ c .apex ⊕ scale (pos power) (lay (c .signs) vector)
+    pub outside : c .look (r .place) ≡ Outside
 
-  pub next-look : {n : ℕ} {p : Vector} (u : Vector) → Question n u → Stopped look q (lay s u) ls p → NextLook (stop 8 p n)
+  pub next-look : {n : ℕ} {p : Vector} (u : Vector) → Question n u → Stopped c u p → NextLook (stop 8 p n)
   next-look u a h = record { vector = u; question = a; voxels = h .voxels; stops = h .is; power = h .beyond .power; isPower = h .beyond .isPower; is = h .beyond .is; outside = h .beyond .outside }

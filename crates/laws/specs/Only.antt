@@ -1,5 +1,5 @@
 -- Lists: what holds of each member, and of those that a test lets through.
-use mathlib.Core.Path.{_≡_, refl, subst}
+use mathlib.Core.Path.{_≡_, refl, sym, ap, subst, _∙_}
 use mathlib.Core.Logic.{inl, inr}
 use mathlib.Core.Bool.{Bool, true, false}
 use mathlib.Core.List.{List, [], _∷_, _++_, map}
@@ -29,6 +29,12 @@ module _ {A : Type 0} where
   each-map P f [] h = tt
   each-map P f (x ∷ xs) h = (h .0, each-map P f xs (h .1))
 
+  -- of a member
+  pub each-member : (P : A → Type 0) (x : A) (xs : List A) → Each P xs → In x xs → P x
+  each-member P x [] h i = absurd i
+  each-member P x (y ∷ ys) h (inl e) = subst P (sym e) (h .0)
+  each-member P x (y ∷ ys) h (inr i) = each-member P x ys (h .1) i
+
   -- each is one of them
   pub each-in : (xs : List A) → Each (λ x. In x xs) xs
   each-in [] = tt
@@ -44,16 +50,6 @@ module _ {A : Type 0} where
         go true e r = (rw e tt, r)
         go false e r = r
 
-    -- of each that is let through, so of each if it is
-    pub each-only : (P : A → Type 0) (xs : List A) → Each P (only test xs) → Each (λ x. T (test x) → P x) xs
-    unfolding only keep
-    each-only P [] h = tt
-    each-only P (x ∷ xs) h = go (test x) refl h (each-only P xs)
-      where
-        go : (b : Bool) → test x ≡ b → Each P (keep b x (only test xs)) → (Each P (only test xs) → Each (λ x. T (test x) → P x) xs) → (T (test x) → P x) × Each (λ x. T (test x) → P x) xs
-        go true e h r = (λ _. h .0, r (h .1))
-        go false e h r = (λ t. absurd (subst T e t), r h)
-
     -- a member of those that are let through
     pub only-in : (x : A) (xs : List A) → In x (only test xs) → T (test x)
     unfolding only keep
@@ -64,6 +60,17 @@ module _ {A : Type 0} where
         go true e (inl p) r = rw (p, e) tt
         go true e (inr i) r = r i
         go false e i r = r i
+
+    pub in-only : (x : A) (xs : List A) → In x xs → T (test x) → In x (only test xs)
+    unfolding only keep
+    in-only x [] i t = absurd i
+    in-only x (y ∷ ys) i t = go (test y) refl i (λ i. in-only x ys i t)
+      where
+        go : (b : Bool) → test y ≡ b → In x (y ∷ ys) → (In x ys → In x (only test ys)) → In x (keep b y (only test ys))
+        go true e (inl p) r = inl p
+        go true e (inr i) r = inr (r i)
+        go false e (inl p) r = absurd (subst T (ap test p ∙ e) t)
+        go false e (inr i) r = r i
 
     -- what holds of each holds of each that is let through
     pub only-each : (P : A → Type 0) (xs : List A) → Each P xs → Each P (only test xs)
@@ -86,13 +93,14 @@ module _ {A : Type 0} where
         go false t e r = (t, r e)
 
 -- ---- the pairs
-pub each-pair : (P : Pair → Type 0) → Each P pairs → (x : Pair) → P x
-each-pair P h P01 = h .0
-each-pair P h P02 = h .1 .0
-each-pair P h P10 = h .1 .1 .0
-each-pair P h P12 = h .1 .1 .1 .0
-each-pair P h P20 = h .1 .1 .1 .1 .0
-each-pair P h P21 = h .1 .1 .1 .1 .1 .0
+pair-in : (x : Pair) → In x pairs
+pair-in P01 = inl refl
+pair-in P02 = inr (inl refl)
+pair-in P10 = inr (inr (inl refl))
+pair-in P12 = inr (inr (inr (inl refl)))
+pair-in P20 = inr (inr (inr (inr (inl refl))))
+pair-in P21 = inr (inr (inr (inr (inr (inl refl)))))
 
-pub each-taking : (P : Pair → Type 0) (v : Levels) → Each P (only (takesPart v) pairs) → (x : Pair) → T (takesPart v x) → P x
-each-taking P v h = each-pair (λ x. T (takesPart v x) → P x) (each-only (takesPart v) P pairs h)
+-- so of each pair that takes part
+pub taking-in : (v : Levels) (x : Pair) → T (takesPart v x) → In x (only (takesPart v) pairs)
+taking-in v x = in-only (takesPart v) x pairs (pair-in x)

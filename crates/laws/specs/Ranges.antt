@@ -20,14 +20,14 @@ use Rattle.rules.specs.declared.Pair.{Pair}
 use Rattle.rules.specs.declared.Choice.{Choice}
 use Rattle.rules.specs.Vectors.{_⊕_, _⊖_, scale, lay}
 use Rattle.rules.specs.Asked.{answered}
-use Rattle.rules.specs.Walk.{powersFrom, powers, first, second, way, step, round}
+use Rattle.rules.specs.Walk.{powersFrom, powers, Probe, first, second, way, step, round}
 use Rattle.rules.specs.Pick.{isInside}
 use Rattle.laws.specs.Tests.{In}
 use Rattle.laws.specs.Parts.{Parts}
 use Rattle.laws.specs.Triples.{All, all-with}
 use Rattle.laws.specs.Frames.{IsSign, Signs, sign-size}
 use Rattle.laws.specs.Says.{says-answered}
-use Rattle.laws.specs.Looks.{place, Fell, FellOf, round-says}
+use Rattle.laws.specs.Looks.{along, FellAt, Fell, FellOf, round-says}
 
 -- 0 to M
 pub record Between (M : ℕ) (z : ℤ) : Type 0 where
@@ -54,27 +54,30 @@ unfolding powers powersFrom
 powers-begin zero = ([], refl)
 powers-begin (suc R) = (_, refl)
 
-module _ (look : Vector → Look) (q : Vector) where
-  abbrev pub IsIn : Vector → ℕ → Type 0
-  IsIn u l = T (isInside (look (place look q u l)))
+module _ (c : Probe) where
+  -- u, laid in, at power 1
+  abbrev pub IsIn : Vector → Type 0
+  IsIn u = T (isInside (c .look (along c (lay (c .signs) u) 1)))
 
-  fell-first : (u : Vector) (l : ℕ) (ls : List ℕ) (b : Bool) → Fell look q u (l ∷ ls) b → IsIn u l
+  fell-first : (u : Vector) (ls : List ℕ) (b : Bool) → FellAt c u (1 ∷ ls) b → T (isInside (c .look (along c u 1)))
   unfolding isInside
-  fell-first u l ls true (inl e) = rw e tt
-  fell-first u l ls true (inr f) = rw (f .0) tt
-  fell-first u l ls false f = rw (f .0) tt
+  fell-first u ls true (inl e) = rw e tt
+  fell-first u ls true (inr f) = rw (f .0) tt
+  fell-first u ls false f = rw (f .0) tt
 
-  fell-asked : (s : Vector) (l : ℕ) (ls : List ℕ) (m : Triangle) (xs fs : List Pair) (x : Pair) → In x xs → FellOf look q s (l ∷ ls) m xs fs → IsIn (lay s (way m x)) l
-  fell-asked s l ls m [] fs x i h = absurd i
-  fell-asked s l ls m (y ∷ ys) fs x (inl e) h = rw e (fell-first (lay s (way m y)) l ls (h .0) (h .2))
-  fell-asked s l ls m (y ∷ ys) fs x (inr i) h = fell-asked s l ls m ys (h .1) x i (h .3)
+  -- where the powers begin with 1
+  module _ (ls : List ℕ) (begins : c .powers ≡ 1 ∷ ls) where
+    fell-in : (u : Vector) (b : Bool) → Fell c u b → IsIn u
+    fell-in u b f = fell-first (lay (c .signs) u) ls b (subst (λ ls. FellAt c (lay (c .signs) u) ls b) begins f)
 
-  -- at power 1 of every way that was asked
-  pub round-in : (s : Vector) (R : ℕ) (ps : List Pair) (m : Triangle) {c : Choice} {t : List Vector} → round look q s (powers R) ps m ≡ answered c t → (x : Pair) → In x ps → IsIn (lay s (way m x)) 1
-  round-in s R ps m {c} {t} e x i = go (powers-begin R .0) (subst (λ ls. round look q s ls ps m ≡ answered c t) (powers-begin R .1) e)
-    where
-      go : (ls : List ℕ) → round look q s (1 ∷ ls) ps m ≡ answered c t → IsIn (lay s (way m x)) 1
-      go ls e = let w = says-answered (round-says look q s (1 ∷ ls) ps m) e .holds in fell-asked s 1 ls m ps (w .0) x i (w .1)
+    fell-asked : (m : Triangle) (xs fs : List Pair) (x : Pair) → In x xs → FellOf c m xs fs → IsIn (way m x)
+    fell-asked m [] fs x i h = absurd i
+    fell-asked m (y ∷ ys) fs x (inl e) h = rw e (fell-in (way m y) (h .0) (h .2))
+    fell-asked m (y ∷ ys) fs x (inr i) h = fell-asked m ys (h .1) x i (h .3)
+
+    -- every way that was asked
+    pub round-in : (ps : List Pair) (m : Triangle) {x : Choice} {t : List Vector} → round c ps m ≡ answered x t → (y : Pair) → In y ps → IsIn (way m y)
+    round-in ps m e y i = let w = says-answered (round-says c ps m) e .holds in fell-asked m ps (w .0) y i (w .1)
 
 -- ---- numbers
 near : (M : ℕ) (q s d : ℤ) → IsSign s → Between M q → Between M (q +ℤ pos 1 *ℤ (s *ℤ d)) → Within M d
@@ -94,13 +97,15 @@ turned-within : (M : ℕ) (a b : Vector) → Bounded M (b ⊖ a) → Bounded M (
 unfolding _⊖_
 turned-within M a b h = record { in-x = opposite M (a .x) (b .x) (h .in-x); in-y = opposite M (a .y) (b .y) (h .in-y); in-z = opposite M (a .z) (b .z) (h .in-z) }
 
-module _ (look : Vector → Look) (M : ℕ) (box : (p : Vector) → T (isInside (look p)) → InCube M p) (q s : Vector) (inside : InCube M q) (signed : Signs s) where
-  pub way-within : (u : Vector) → IsIn look q (lay s u) 1 → Bounded M u
+module _ (c : Probe) (M : ℕ) (box : (p : Vector) → T (isInside (c .look p)) → InCube M p) (inside : InCube M (c .apex)) (signed : Signs (c .signs)) where
+  pub way-within : (u : Vector) → IsIn c u → Bounded M u
   unfolding _⊕_ scale lay
   way-within u i =
-      let c = box _ i in
-      record { in-x = near M (q .x) (s .x) (u .x) (signed .ofX) (inside .ofX) (c .ofX); in-y = near M (q .y) (s .y) (u .y) (signed .ofY) (inside .ofY) (c .ofY); in-z = near M (q .z) (s .z) (u .z) (signed .ofZ) (inside .ofZ) (c .ofZ) }
+      let b = box _ i in
+      let q = c .apex in
+      let s = c .signs in
+      record { in-x = near M (q .x) (s .x) (u .x) (signed .ofX) (inside .ofX) (b .ofX); in-y = near M (q .y) (s .y) (u .y) (signed .ofY) (inside .ofY) (b .ofY); in-z = near M (q .z) (s .z) (u .z) (signed .ofZ) (inside .ofZ) (b .ofZ) }
 
   -- after a round that was answered, whatever step is taken by a pair that it asked
-  pub step-within : (R : ℕ) (ps : List Pair) (m : Triangle) {c : Choice} {t : List Vector} → round look q s (powers R) ps m ≡ answered c t → All (Bounded M) m → (x : Pair) → In x ps → All (Bounded M) (step m x)
-  step-within R ps m e h x i = all-with h x (turned-within M (first m x) (second m x) (way-within (way m x) (round-in look q s R ps m e x i)))
+  pub step-within : (ls : List ℕ) → c .powers ≡ 1 ∷ ls → (ps : List Pair) (m : Triangle) {y : Choice} {t : List Vector} → round c ps m ≡ answered y t → All (Bounded M) m → (x : Pair) → In x ps → All (Bounded M) (step m x)
+  step-within ls begins ps m e h x i = all-with h x (turned-within M (first m x) (second m x) (way-within (way m x) (round-in c ls begins ps m e x i)))

@@ -14,38 +14,38 @@ use Rattle.integers.specs.Reify.{byring, sides, by-eq}
 use Rattle.integers.specs.Order.{parts, linear, atom, fact}
 use Rattle.integers.specs.Sizes.{Within, sizes, product-size}
 use Rattle.rules.specs.declared.Vector.{Vector}
-use Rattle.rules.specs.declared.Look.{Look}
 use Rattle.rules.specs.declared.Levels.{Levels}
 use Rattle.rules.specs.declared.Stack.{Stack}
 use Rattle.rules.specs.declared.Solid.the-variants.{Stack as IsStack}
 use Rattle.rules.specs.declared.Accepted.{Accepted as AcceptedPick}
 use Rattle.rules.specs.declared.Pick.the-variants.{Accepted}
 use Rattle.rules.specs.declared.Triangle.{Triangle}
+use Rattle.rules.specs.declared.Pair.{Pair}
 use Rattle.rules.specs.declared.Pair.the-variants.{P01, P10}
 use Rattle.rules.specs.Vectors.{_⊖_, minus, lay, dot, cross, det}
-use Rattle.rules.specs.Walk.{powers, Axis, axis0, axis1, axis2, unit, way, level, takesPart}
-use Rattle.rules.specs.Solids.{look}
+use Rattle.rules.specs.Walk.{Axis, axis0, axis1, axis2, unit, pairs, way, level, only, takesPart, Probe}
+use Rattle.rules.specs.Solids.{permittedStack, look}
 use Rattle.rules.specs.Pick.{isInside, pickOf}
 use Rattle.laws.specs.Tests.{both}
-use Rattle.laws.specs.Only.{each-taking}
+use Rattle.laws.specs.Only.{each-member, taking-in}
 use Rattle.laws.specs.Parts.{part, part-of, part-sum, part-scale, part-minus, part-lay, difference-turned}
 use Rattle.laws.specs.Triples.{detOf, of9}
 use Rattle.laws.specs.Frames.{IsSign, Signs, signs-are, sign-size}
-use Rattle.laws.specs.Looks.{place, Fell}
+use Rattle.laws.specs.Looks.{along, FellAt, Fell}
 use Rattle.laws.specs.Powers.{Reaches, powers-128}
 use Rattle.laws.specs.Ranges.{Between, InCube}
 use Rattle.laws.specs.Boxes.{stack-cube}
 use Rattle.laws.specs.Axes.{FellAlong, AxesOf}
-use Rattle.laws.specs.Picks.{End, permitted-reach}
-use Rattle.laws.specs.Answers.{told-accepted}
+use Rattle.laws.specs.Picks.{End, PickFound, permitted-reach}
+use Rattle.laws.specs.Answers.{foundOf, accepted-tells}
 
 -- two ways that did not fall were looked at, at one power of at least M, inside the box
-both-in : (look : Vector → Look) (q u v : Vector) (M : ℕ) (ls : List ℕ) → Reaches M ls → Fell look q u ls false → Fell look q v ls false
-    → (l : ℕ) × (M ≤ l) × T (isInside (look (place look q u l))) × T (isInside (look (place look q v l)))
+both-in : (c : Probe) (u v : Vector) (M : ℕ) (ls : List ℕ) → Reaches M ls → FellAt c u ls false → FellAt c v ls false
+    → (l : ℕ) × (M ≤ l) × T (isInside (c .look (along c u l))) × T (isInside (c .look (along c v l)))
 unfolding isInside
-both-in look q u v M [] r f g = absurd r
-both-in look q u v M (l ∷ ls) (inl h) f g = (l, h, rw (f .0) tt, rw (g .0) tt)
-both-in look q u v M (l ∷ ls) (inr r) f g = both-in look q u v M ls r (f .1) (g .1)
+both-in c u v M [] r f g = absurd r
+both-in c u v M (l ∷ ls) (inl h) f g = (l, h, rw (f .0) tt, rw (g .0) tt)
+both-in c u v M (l ∷ ls) (inr r) f g = both-in c u v M ls r (f .1) (g .1)
 
 -- ---- a number that stays in 0 to 255 both ways at such a power is zero
 none-left : (l y : ℕ) → 128 ≤ l → l * y ≤ 127 → y ≡ 0
@@ -86,49 +86,52 @@ equal-flat m h =
     (by-eq (m .m2 .x *ℤ m .m0 .y -ℤ m .m2 .y *ℤ m .m0 .x) (h axis2)
     (byring (of9 m) (search sides depth 40 fits 5000) tt)))
 
-module _ (look : Vector → Look) (box : (p : Vector) → T (isInside (look p)) → InCube 255 p) (q s : Vector) (signed : Signs s) (R : ℕ) (far : Reaches 128 (powers R)) where
-  abbrev ls : List ℕ
-  ls = powers R
+module _ (c : Probe) (box : (p : Vector) → T (isInside (c .look p)) → InCube 255 p) (signed : Signs (c .signs)) (far : Reaches 128 (c .powers)) where
+  abbrev q : Vector
+  q = c .apex
+
+  abbrev s : Vector
+  s = c .signs
 
   -- a vector that fell neither way
-  still : (u : Vector) → Fell look q (lay s u) ls false → Fell look q (lay s (minus u)) ls false → (k : Axis) → part k u ≡ pos 0
+  still : (u : Vector) → Fell c u false → Fell c (minus u) false → (k : Axis) → part k u ≡ pos 0
   still u f g k =
-      let b = both-in look q (lay s u) (lay s (minus u)) 128 ls far f g in
-      zero-part (part k q) (part k s) (part k u) (b .0) (part-of signed k) (b .1) (subst (Between 255) (along u (b .0)) (part-of (box _ (b .2)) k)) (subst (Between 255) (along (minus u) (b .0) ∙ opposite (b .0)) (part-of (box _ (b .3)) k))
+      let b = both-in c (lay s u) (lay s (minus u)) 128 (c .powers) far f g in
+      zero-part (part k q) (part k s) (part k u) (b .0) (part-of signed k) (b .1) (subst (Between 255) (part-along u (b .0)) (part-of (box _ (b .2)) k)) (subst (Between 255) (part-along (minus u) (b .0) ∙ opposite (b .0)) (part-of (box _ (b .3)) k))
     where
-      along : (u : Vector) (l : ℕ) → part k (place look q (lay s u) l) ≡ part k q +ℤ pos l *ℤ (part k s *ℤ part k u)
-      along u l = simp (part-sum, part-scale, part-lay) refl
+      part-along : (u : Vector) (l : ℕ) → part k (along c (lay s u) l) ≡ part k q +ℤ pos l *ℤ (part k s *ℤ part k u)
+      part-along u l = simp (part-sum, part-scale, part-lay) refl
 
       opposite : (l : ℕ) → part k q +ℤ pos l *ℤ (part k s *ℤ part k (minus u)) ≡ part k q +ℤ pos l *ℤ (part k s *ℤ negℤ (part k u))
       opposite l = ap (λ z. part k q +ℤ pos l *ℤ (part k s *ℤ z)) (part-minus k u)
 
-  no-level : (k : Axis) (b : Bool) → FellAlong look q s ls (unit k) b → T (not b)
+  no-level : (k : Axis) (b : Bool) → FellAlong c (unit k) b → T (not b)
   no-level k false f = tt
   no-level k true f = let o : pos 1 ≡ pos 0 = sym (unit-one k) ∙ still (unit k) (f .1) (f .0) k in absurd (omega (arith, parts))
 
-  too-far : (v : Levels) (e : Triangle × ℕ) → AxesOf look q s ls v → End look q s v R e → ⊥
+  too-far : (R : ℕ) (v : Levels) (e : Triangle × ℕ) → AxesOf c v → End c R v e → ⊥
   unfolding takesPart
-  too-far v e a h =
+  too-far R v e a h =
       let m = e .0 in
-      let stood = each-taking (λ x. Fell look q (lay s (way m x)) ls false) v (h .stood) in
+      let stood : (x : Pair) → T (takesPart v x) → Fell c (way m x) false = λ x t. each-member (λ x. Fell c (way m x) false) x (only (takesPart v) pairs) (h .stood) (taking-in v x t) in
       let x = no-level axis0 (level v axis0) (a .axis axis0 .fell) in
       let y = no-level axis1 (level v axis1) (a .axis axis1 .fell) in
       let f = stood P01 (both (not (v .x)) (not (v .y)) x y) in
-      let g = subst (λ u. Fell look q (lay s u) ls false) (difference-turned (m .m0) (m .m1)) (stood P10 (both (not (v .y)) (not (v .x)) y x)) in
+      let g = subst (λ u. Fell c u false) (difference-turned (m .m0) (m .m1)) (stood P10 (both (not (v .y)) (not (v .x)) y x)) in
       let o : pos 1 ≡ pos 0 = sym (h .tame .unimodular) ∙ equal-flat m (still (way m P01) f g) in
       omega (arith, parts)
 
-reach-64 : (look : Vector → Look) → ((p : Vector) → T (isInside (look p)) → InCube 255 p) → (q s : Vector) → Signs s → (R : ℕ) (v : Levels) (e : Triangle × ℕ) → AxesOf look q s (powers R) v → End look q s v R e → R ≤ 64
-reach-64 look box q s signed R v e a h = go (leb R 64) refl
-  where
-    go : (b : Bool) → leb R 64 ≡ b → R ≤ 64
-    go true k = leb→le R 64 (rw k tt)
-    go false k = absurd (too-far look box q s signed R (powers-128 R (nleb→lt R 64 (rw k tt))) v e a h)
-
 pub stack-reach : (stack : Stack) (bytes : List ℕ) (p : Vector) (frame reach : ℤ) (a : AcceptedPick) → pickOf (IsStack stack) bytes p frame reach ≡ Accepted a → reach ≤ℤ pos 64
 stack-reach stack bytes p frame reach a is =
-    let h = told-accepted (IsStack stack) bytes p frame reach a is in
-    let R = permitted-reach reach (h .permittedReach) in
-    let k = h .accepting in
-    let small = reach-64 (look (IsStack stack) bytes) (stack-cube stack bytes (h .permittedSolid)) _ _ (signs-are (natAbs frame)) (natAbs reach) (k .level) (k .at) (k .asked) (k .end) in
+    let R = permitted-reach reach (h .passed .permittedReach) in
+    let small = go (leb (natAbs reach) 64) refl in
     omega (arith, parts, R .2)
+  where
+    h : PickFound (permittedStack stack bytes) (look (IsStack stack) bytes) p frame reach (foundOf a)
+    h = accepted-tells (IsStack stack) bytes p frame reach a is
+
+    go : (b : Bool) → leb (natAbs reach) 64 ≡ b → natAbs reach ≤ 64
+    go true k = leb→le (natAbs reach) 64 (rw k tt)
+    go false k =
+        let o = h .accepting in
+        absurd (too-far _ (stack-cube stack bytes (h .passed .permittedSolid)) (signs-are (natAbs frame)) (powers-128 (natAbs reach) (nleb→lt (natAbs reach) 64 (rw k tt))) _ (o .level) (o .at) (o .asked) (o .end))

@@ -10,7 +10,6 @@ use lib.ListN.{length}
 use lib.IntN.{ℤ, pos, natAbs, _-ℤ_, _*ℤ_}
 use lib.Signed.{_≤ℤ_}
 use Rattle.rules.specs.declared.Vector.{Vector}
-use Rattle.rules.specs.declared.Look.{Look}
 use Rattle.rules.specs.declared.Solid.{Solid}
 use Rattle.rules.specs.declared.Solid.the-variants.{Stack as IsStack}
 use Rattle.rules.specs.declared.Stack.{Stack}
@@ -27,8 +26,8 @@ use Rattle.rules.specs.declared.Pick.the-variants.{Accepted, Refused}
 use Rattle.rules.specs.Vectors.{_⊕_, scale, dot, lay}
 use Rattle.rules.specs.Solids.{box, inBox, permitted, look}
 use Rattle.rules.specs.Asked.{answered}
-use Rattle.rules.specs.Walk.{signs, powers, Axis, axis0, axis1, axis2, unit, units, vectorOf, pairs, second, way, step, levels, level, keep, only, remaining, takesPart, determinant, inside, choice, falling, round}
-use Rattle.rules.specs.Pick.{isInside, pick, pickOf}
+use Rattle.rules.specs.Walk.{signs, powers, Axis, axis0, axis1, axis2, unit, units, vectorOf, pairs, second, way, step, levels, level, keep, only, remaining, takesPart, determinant, inside, choice, Probe, laid, falling, round}
+use Rattle.rules.specs.Pick.{isInside, probe, pick, pickOf}
 use Rattle.laws.specs.Tests.{In}
 use Rattle.laws.specs.Parts.{NonNegative, Positive, part, parts-by}
 use Rattle.laws.specs.Triples.{All, all-by, detOf, step-det}
@@ -45,7 +44,7 @@ use Rattle.laws.specs.Powers as Powers
 use Rattle.laws.specs.Powers.{UpTo, few-looks}
 use Rattle.laws.specs.Ranges.{Bounded}
 use Rattle.laws.specs.Boxes as Boxes
-use Rattle.laws.specs.Boxes.{outside-box}
+use Rattle.laws.specs.Boxes.{outside-box, probeOn}
 use Rattle.laws.specs.Next.{LevelsAnswered, Reached, NextLook}
 use Rattle.laws.specs.Axes.{levels-answered}
 use Rattle.laws.specs.Answered.{voxelsOf}
@@ -54,7 +53,8 @@ use Rattle.laws.specs.Ended.{EndsIfNoneFalls}
 use Rattle.laws.specs.PickParts.{PickParts, pick-parts}
 use Rattle.laws.specs.BothWays.{BothWays, parts-levels, levels-looked, sides-looked}
 use Rattle.laws.specs.Picks.{Accepting}
-use Rattle.laws.specs.Answers.{laid, stepsOf, looksOf, foundOf, stopOf, accepted-answer, told-accepted, told-refused, told-steps, told-looks, accepting-determinant, accepting-products, accepting-generated, accepting-signs, accepting-steps, accepting-stays, accepting-axes}
+use Rattle.laws.specs.Answers as Answers
+use Rattle.laws.specs.Answers.{stepsOf, looksOf, foundOf, stopOf, accepted-answer, accepted-tells, refused-tells, few-steps, accepting-determinant, accepting-products, accepting-generated, accepting-signs, accepting-steps, accepting-stays, accepting-axes}
 use Rattle.laws.specs.Stacks as Stacks
 
 -- ---- the powers are 1, 2, 4, .. up to the first that is at least R
@@ -85,16 +85,15 @@ best-is-choice = Choosing.best-is-choice
 
 -- ---- so the definition's walk ends exactly if no pair falls: at every triangle that a walk of the pairs ps meets, whatever follows, the determinant is 1;
 -- where none of the pairs fell it ends there, else it steps by one that fell, or refuses 9 where no step is left
-pub walk-ends : (look : Vector → Look) (q s : Vector) (ls : List ℕ) (ps : List Pair) (n : ℕ) (m : Triangle) → Reached look q s ls ps n m
-    → (falls : List Pair) (voxels : List Vector) → falling look q s ls m ps ≡ answered falls voxels → (left : ℕ) → EndsIfNoneFalls look q s ls ps left n m falls voxels
-walk-ends look q s ls ps n m r falls voxels e left = Ended.walk-ends look q s ls ps n m r e left
+pub walk-ends : (c : Probe) (ps : List Pair) (n : ℕ) (m : Triangle) → Reached c ps n m → (fell : List Pair) (voxels : List Vector) → falling c m ps ≡ answered fell voxels → (left : ℕ) → EndsIfNoneFalls c ps left n m fell voxels
+walk-ends c ps n m r fell voxels e left = Ended.walk-ends c ps n m r e left
 
 -- ---- each part of every triangle vector stays within 1023: it does at the beginning, and if it does before a round that was answered, it does after a step by any pair that the round asked
 pub units-within : All (Bounded 1023) units
 units-within = Boxes.units-within
 
-pub triangle-within : (solid : Solid) (bytes : List ℕ) (q s : Vector) (R : ℕ) (ps : List Pair) (m : Triangle) {c : Choice} {t : List Vector}
-    → T (permitted solid bytes) → T (isInside (look solid bytes q)) → Signs s → round (look solid bytes) q s (powers R) ps m ≡ answered c t
+pub triangle-within : (solid : Solid) (bytes : List ℕ) (q s : Vector) (R : ℕ) (ps : List Pair) (m : Triangle) {y : Choice} {t : List Vector}
+    → T (permitted solid bytes) → T (isInside (look solid bytes q)) → Signs s → round (probeOn solid bytes q s R) ps m ≡ answered y t
     → All (Bounded 1023) m → (x : Pair) → In x ps → All (Bounded 1023) (step m x)
 triangle-within solid bytes q s R ps m ok inside signed = Boxes.triangle-within solid bytes q s R ps m ok inside signed
 
@@ -113,21 +112,22 @@ module _ (solid : Solid) (bytes : List ℕ) (p : Vector) (frame reach : ℤ) whe
   abbrev s : Vector
   s = signs (natAbs frame)
 
-  abbrev q : Vector
-  q = p ⊕ signs (natAbs frame)
+  -- what the walk is about, from the apex q, that is p + s
+  abbrev c : Probe
+  c = probe (look solid bytes) p frame reach
 
   -- ---- at most R - 2 steps and 2 + K(6R - 9) looks, with 3 for a smaller R, refused or accepted; so at most 13,745
   pub steps-at-most : stepsOf (pickOf solid bytes p frame reach) ≤ natAbs reach - 2
-  steps-at-most = told-steps solid bytes p frame reach
+  steps-at-most = few-steps solid bytes p frame reach
 
   pub looks-at-most : looksOf (pickOf solid bytes p frame reach) ≤ 2 + K * (6 * max (natAbs reach) 3 - 9)
-  looks-at-most = told-looks solid bytes p frame reach _ (λ _. NatL.le-refl _)
+  looks-at-most = Answers.few-looks solid bytes p frame reach _ (λ _. NatL.le-refl _)
 
   pub looks-at-most-from-3 : 3 ≤ natAbs reach → looksOf (pickOf solid bytes p frame reach) ≤ 2 + K * (6 * natAbs reach - 9)
   looks-at-most-from-3 h = let e : max R 3 ≡ R = omega (arith, h) in rw e at looks-at-most
 
   pub looks-at-most-13745 : looksOf (pickOf solid bytes p frame reach) ≤ 13745
-  looks-at-most-13745 = told-looks solid bytes p frame reach 13745 (λ h. few-looks R (max R 3) h (omega arith))
+  looks-at-most-13745 = Answers.few-looks solid bytes p frame reach 13745 (λ h. few-looks R (max R 3) h (omega arith))
 
   -- the voxels that the pick looks at, in order
   abbrev pub lookedAt : List Vector
@@ -135,16 +135,16 @@ module _ (solid : Solid) (bytes : List ℕ) (p : Vector) (frame reach : ℤ) whe
 
   -- u and its opposite from q: at each power the voxel there is one of those, and empty
   abbrev pub LookedBothWays : Vector → Type 0
-  LookedBothWays = BothWays (look solid bytes) (p ⊕ signs (natAbs frame)) (signs (natAbs frame)) (powers (natAbs reach)) lookedAt
+  LookedBothWays = BothWays (probe (look solid bytes) p frame reach) lookedAt
 
   -- each axis was asked, and v has those that are level
   abbrev pub Answered : Levels → Type 0
-  Answered = LevelsAnswered (look solid bytes) (p ⊕ signs (natAbs frame)) (signs (natAbs frame)) (powers (natAbs reach))
+  Answered = LevelsAnswered (probe (look solid bytes) p frame reach)
 
   -- ---- an accepted pick
   module _ (a : AcceptedPick) (is : pickOf solid bytes p frame reach ≡ Accepted a) where
-    abbrev accepting : Accepting (look solid bytes) (p ⊕ signs (natAbs frame)) (signs (natAbs frame)) (natAbs reach) (foundOf a)
-    accepting = told-accepted solid bytes p frame reach a is .accepting
+    abbrev accepting : Accepting (probe (look solid bytes) p frame reach) (natAbs reach) (foundOf a)
+    accepting = accepted-tells solid bytes p frame reach a is .accepting
 
     abbrev signed : Signs (signs (natAbs frame))
     signed = signs-are (natAbs frame)
@@ -177,18 +177,18 @@ module _ (solid : Solid) (bytes : List ℕ) (p : Vector) (frame reach : ℤ) whe
     accepted-generated = accepting-generated accepting signed
 
     -- a walk that ends has looked both ways from q, at every power, so at the last: along each level axis, and along each side between two other corners
-    parts-here : PickParts (look solid bytes) (p ⊕ signs (natAbs frame)) (signs (natAbs frame)) (natAbs reach) (foundOf a) lookedAt
+    parts-here : PickParts c (natAbs reach) (foundOf a) lookedAt
     unfolding pickOf
     parts-here = pick-parts _ _ p frame reach (accepted-answer (pick (permitted solid bytes) (look solid bytes) p frame reach) is)
 
     levels-here : parts-here .levels ≡ levelsOf (a .normal)
-    levels-here = parts-levels _ _ _ parts-here accepted-levels
+    levels-here = parts-levels c parts-here accepted-levels
 
     pub level-both-ways : (k : Axis) → T (level (levelsOf (a .normal)) k) → LookedBothWays (lay s (unit k))
-    level-both-ways k l = levels-looked _ _ _ parts-here k (rw levels-here l)
+    level-both-ways k l = levels-looked c parts-here k (rw levels-here l)
 
     pub sides-both-ways : (x : Pair) → T (takesPart (levelsOf (a .normal)) x) → LookedBothWays (way (a .triangle) x)
-    sides-both-ways x takes = sides-looked _ _ _ parts-here x (rw levels-here takes)
+    sides-both-ways x takes = sides-looked c parts-here x (rw levels-here takes)
 
     -- with no level axis, as document 01 has it
     module _ (none : (k : Axis) → isZero (part k (a .normal)) ≡ false) where
@@ -206,7 +206,7 @@ module _ (solid : Solid) (bytes : List ℕ) (p : Vector) (frame reach : ℤ) whe
 
   -- ---- a refused pick that took a step had asked the axes: at most the reach less those that remain
   pub refused-steps : (r : RefusedPick) → pickOf solid bytes p frame reach ≡ Refused r → 1 ≤ r .steps → (v : Levels) × Answered v × (r .steps ≤ natAbs reach - length (remaining v))
-  refused-steps r is h = let a = told-refused solid bytes p frame reach r is .fewSteps .asked h in (a .0, levels-answered _ _ _ _ (a .1), a .2)
+  refused-steps r is h = let a = refused-tells solid bytes p frame reach r is .fewSteps .asked h in (a .0, levels-answered c (a .1), a .2)
 
   -- so with no level axis at most R - 3, refused or accepted, as document 01 has it
   pub base-steps-at-most : Answered (levels false false false) → stepsOf (pickOf solid bytes p frame reach) ≤ natAbs reach - 3
@@ -228,8 +228,8 @@ module _ (solid : Solid) (bytes : List ℕ) (p : Vector) (frame reach : ℤ) whe
           refused (suc n) h = let a = h (omega arith) in three (suc n) (a .0) (a .1) (a .2)
 
   -- ---- refusal 8 is given at the voxel that was to be looked at next, and that lies outside the box
-  pub refused-next : (r : RefusedPick) → pickOf solid bytes p frame reach ≡ Refused r → r .number ≡ 8 → NextLook (look solid bytes) q s (powers (natAbs reach)) (stopOf r)
-  refused-next r is e = told-refused solid bytes p frame reach r is .next e
+  pub refused-next : (r : RefusedPick) → pickOf solid bytes p frame reach ≡ Refused r → r .number ≡ 8 → NextLook (probe (look solid bytes) p frame reach) (stopOf r)
+  refused-next r is e = refused-tells solid bytes p frame reach r is .next e
 
   pub refused-outside : (r : RefusedPick) → pickOf solid bytes p frame reach ≡ Refused r → r .number ≡ 8 → T (not (inBox (box solid) (r .place)))
   refused-outside r is e = outside-box solid bytes (r .place) (refused-next r is e .outside)

@@ -17,7 +17,7 @@ use Rattle.rules.specs.declared.Number.the-variants.{Whole, NoNumber}
 use Rattle.rules.specs.declared.Line.{Line}
 use Rattle.rules.specs.Session.{fields, always, ifWhole, next}
 use Rattle.line.specs.declared.Field.the-variants.{Holds, NoField}
-use Rattle.line.specs.Reading.{stretch, Found, NumberRead, rest, FieldAt}
+use Rattle.line.specs.Reading.{stretch, PartEnds, NumberRead, rest, FieldAt}
 
 module _ (line : List ℕ) (at : ℕ) where
   pub rest-some : at ≤ length line → rest line at ≡ fields (drop at line)
@@ -32,7 +32,7 @@ pub past-end : {line : List ℕ} {at : ℕ} → length line < at → FieldAt lin
 unfolding next
 past-end {line} {at} h = record { is = λ k. ap (λ (fs : List (List ℕ)). next fs k) (rest-none line at h) }
 
-module _ {line : List ℕ} {at end : ℕ} (h : at ≤ length line) (F : Found line at 32 end) where
+module _ {line : List ℕ} {at end : ℕ} (h : at ≤ length line) (F : PartEnds line at 32 end) where
   split : rest line at ≡ stretch line at end ∷ rest line (end + 1)
   split = rest-some line at h ∙ by (ltb end (length line)) refl
     where

@@ -3,13 +3,13 @@ use mathlib.Core.Path.{_≡_, sym, ap, _∙_}
 use mathlib.Core.Logic.{_≢_}
 use mathlib.Core.List.{List, [], _∷_, _++_}
 use Prim.Native.Nat.{ℕ, suc, _+_, _-_, _≤_, _<_}
-use native.Mathlib.Numerals.{add-one}
 use native.Mathlib.Omega.{arith}
 use lib.ListN.{length, take, drop, getD, length-drop, drop-of-length-le}
-use lib.Seq.{drop-cons, take-suc, getD-drop}
+use lib.Seq.{take-suc, getD-drop}
 use borrow.Author.Tests.{eq-eqb, ne-eqb}
 use Rattle.rules.specs.Session.{parts}
-use Rattle.line.specs.Reading.{stretch, Found}
+use Rattle.text.specs.Places.{drop-here}
+use Rattle.line.specs.Reading.{stretch, PartEnds}
 
 pub record Finding (s : List ℕ) (at mark i : ℕ) : Type 0 where
   pub from : at ≤ i
@@ -36,29 +36,26 @@ module _ {s : List ℕ} {at mark i : ℕ} (F : Finding s at mark i) where
       let here : getD (drop at s) (i - at) 0 ≡ getD s i 0 = getD-drop at s (i - at) 0 ∙ ap (λ (k : ℕ). getD s k 0) place in
       ap (λ (b : ℕ). stretch s at i ++ (b ∷ [])) (sym here) ∙ sym (take-suc (drop at s) (i - at) 0 inside) ∙ ap (λ (k : ℕ). take k (drop at s)) count
 
-  cut : i < length s → drop i s ≡ getD s i 0 ∷ drop (i + 1) s
-  cut h = drop-cons s i 0 h ∙ ap (λ (k : ℕ). getD s i 0 ∷ drop k s) (sym (add-one i))
-
   pub finding-more : i < length s → getD s i 0 ≢ mark → Finding s at mark (i + 1)
   unfolding parts
   finding-more h n = record {
     from = let f = F .from in omega arith;
     within = omega arith;
-    so-far = λ last. F .so-far last ∙ ap (parts last mark (stretch s at i)) (cut h) ∙ rw (ne-eqb (getD s i 0) mark n, parts) (ap (λ (b : List ℕ). parts last mark b (drop (i + 1) s)) (longer h));
+    so-far = λ last. F .so-far last ∙ ap (parts last mark (stretch s at i)) (drop-here s i h) ∙ rw (ne-eqb (getD s i 0) mark n, parts) (ap (λ (b : List ℕ). parts last mark b (drop (i + 1) s)) (longer h));
   }
 
-  pub found-mark : i < length s → getD s i 0 ≡ mark → Found s at mark i
+  pub ends-at-mark : i < length s → getD s i 0 ≡ mark → PartEnds s at mark i
   unfolding parts
-  found-mark h e = record {
+  ends-at-mark h e = record {
     from = F .from;
     within = F .within;
-    at-mark = λ l last. F .so-far last ∙ ap (parts last mark (stretch s at i)) (cut h) ∙ rw (eq-eqb (getD s i 0) mark e, parts);
+    at-mark = λ l last. F .so-far last ∙ ap (parts last mark (stretch s at i)) (drop-here s i h) ∙ rw (eq-eqb (getD s i 0) mark e, parts);
     at-end = λ l. absurd (omega arith);
   }
 
-  pub found-end : length s ≤ i → Found s at mark i
+  pub ends-with-text : length s ≤ i → PartEnds s at mark i
   unfolding parts
-  found-end h = record {
+  ends-with-text h = record {
     from = F .from;
     within = F .within;
     at-mark = λ l. absurd (omega arith);

@@ -27,7 +27,7 @@ abbrev pub stretch : List ℕ → ℕ → ℕ → List ℕ
 stretch s at end = take (end - at) (drop at s)
 
 -- ---- the part that begins at place `at` ends at place `end`: at a mark, or with the text
-pub record Found (s : List ℕ) (at mark end : ℕ) : Type 0 where
+pub record PartEnds (s : List ℕ) (at mark end : ℕ) : Type 0 where
   pub from : at ≤ end
   pub within : end ≤ length s
   pub at-mark : end < length s → (last : List ℕ → List (List ℕ)) → parts last mark [] (drop at s) ≡ stretch s at end ∷ parts last mark [] (drop (end + 1) s)

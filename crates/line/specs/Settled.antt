@@ -10,13 +10,13 @@ use lib.ListN.{length, drop, length-drop}
 use lib.Seq.{length-take-le}
 use borrow.Author.Tests.{ltb-true, ltb-false}
 use Rattle.rules.specs.Session.{parts, always}
-use Rattle.line.specs.Reading.{stretch, Found}
+use Rattle.line.specs.Reading.{stretch, PartEnds}
 
 first : List (List ℕ) → List ℕ
 first [] = []
 first (part ∷ more) = part
 
-module _ {s : List ℕ} {at mark end : ℕ} (F : Found s at mark end) where
+module _ {s : List ℕ} {at mark end : ℕ} (F : PartEnds s at mark end) where
   first-part : first (parts always mark [] (drop at s)) ≡ stretch s at end
   unfolding first
   first-part = by (ltb end (length s)) refl
@@ -28,5 +28,5 @@ module _ {s : List ℕ} {at mark end : ℕ} (F : Found s at mark end) where
   distance : length (stretch s at end) ≡ end - at
   distance = let w = F .within in length-take-le (end - at) (drop at s) (simp length-drop (omega arith))
 
-pub found-settled : {s : List ℕ} {at mark m n : ℕ} → Found s at mark m → Found s at mark n → m ≡ n
-found-settled F G = omega (arith, F .from, G .from, sym (distance F) ∙ ap length (sym (first-part F) ∙ first-part G) ∙ distance G)
+pub part-ends-settled : {s : List ℕ} {at mark m n : ℕ} → PartEnds s at mark m → PartEnds s at mark n → m ≡ n
+part-ends-settled F G = omega (arith, F .from, G .from, sym (distance F) ∙ ap length (sym (first-part F) ∙ first-part G) ∙ distance G)

@@ -9,7 +9,7 @@ ghost use Prim.Native.Nat.{_≤_, _<_};
 ghost use lib.IntN.{pos};
 ghost use lib.ListN.{length};
 ghost use Rattle.rules.specs.Session.{minus};
-ghost use Rattle.line.specs.Reading.{Found, DigitsRead, NumberRead, signedOf, FieldAt, ThreeAt, Asking, LineRead};
+ghost use Rattle.line.specs.Reading.{PartEnds, DigitsRead, NumberRead, signedOf, FieldAt, ThreeAt, Asking, LineRead};
 
 // What digits say.
 enum Digits {
@@ -31,7 +31,7 @@ enum Three {
 // The place of the first `mark` from `at` on, or the text's end.
 pub fn find(text: &[u8], at: usize, mark: u8) -> usize
     requires { ⌜ at ≤ length (now text) ⌝ }
-    ensures { λ r. ⌜ Found (now (text .entry)) at mark r ⌝ }
+    ensures { λ r. ⌜ PartEnds (now (text .entry)) at mark r ⌝ }
 {
     let mut i = at;
     while i < text.len() {

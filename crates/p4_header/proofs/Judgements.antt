@@ -7,16 +7,17 @@ use native.Mathlib.Omega.{arith}
 use lib.ListN.{length, getD, drop, List·getD-eq-default}
 use lib.Dec.{leb, ltb}
 use borrow.Author.Tests.{le-leb, lt-leb, leb-true, leb-false, lt-ltb, le-ltb, not-true, not-false}
+use Rattle.integers.specs.Tests.{both, not-first, not-second}
 use Rattle.rules.specs.P4.{Judged, good, wrong, _>>=_, _>>_, judge, isEnd, isWhite, magic, white, digitsAt, Field, fieldAt, headerAt}
 use Rattle.p4_laws.specs.White.{space-reads, comment-reads, other-refused}
-use Rattle.p4_laws.specs.Judging.{on, off, pass, fail, both, not-first, not-second}
+use Rattle.p4_laws.specs.Judging.{on, off, pass, fail}
 use Rattle.p4_header.specs.declared.PlaceRead.{PlaceRead}
 use Rattle.p4_header.specs.declared.PlaceRead.the-variants.{At, NotAt}
 use Rattle.p4_header.specs.declared.FieldRead.{FieldRead}
 use Rattle.p4_header.specs.declared.FieldRead.the-variants.{Value, NoValue}
 use Rattle.p4_header.specs.declared.HeaderRead.{HeaderRead}
 use Rattle.p4_header.specs.declared.HeaderRead.the-variants.{Sizes, NoSizes}
-use Rattle.p4_header.specs.Reads.{place, field, sizesAt, Stands, Comment, White, Mix, Digits, FieldIs, SizesAre, HeaderIs}
+use Rattle.p4_header.specs.Reads.{judgedPlace, judgedField, sizesAt, Stands, Comment, White, Mix, Digits, FieldIs, SizesAre, HeaderIs}
 
 -- ---- the white space required
 module _ (s : List ℕ) (at : ℕ) where
@@ -71,7 +72,7 @@ module _ (number : ℕ) {most : ℕ} {s : List ℕ} {at first v end : ℕ} (top 
   field-none l = let e = D .next-is in record { is = sym (from-digits ∙ fail 22 first _ (le-ltb first _ (omega arith))) }
 
   module _ (l : first < end) {w : PlaceRead} (W : White s end w) where
-    from-white : fieldAt most number s at ≡ judgedFrom most number first v (place w)
+    from-white : fieldAt most number s at ≡ judgedFrom most number first v (judgedPlace w)
     unfolding digitsFrom judgedFrom
     from-white =
         let d = digitsAt 0 (drop first s) first in
@@ -80,17 +81,17 @@ module _ (number : ℕ) {most : ℕ} {s : List ℕ} {at first v end : ℕ} (top 
         ∙ pass 22 first _ (lt-ltb first (d .1) (omega arith))
         ∙ ap (λ (x : ℕ). judgedFrom most number first (d .0) (white s x)) (sym e)
         ∙ ap (judgedFrom most number first (d .0)) (sym (W .is))
-        ∙ sym (capped most number first (d .0) (place w) top)
-        ∙ ap (λ (x : ℕ). judgedFrom most number first x (place w)) (sym (D .value-is))
+        ∙ sym (capped most number first (d .0) (judgedPlace w) top)
+        ∙ ap (λ (x : ℕ). judgedFrom most number first x (judgedPlace w)) (sym (D .value-is))
 
     pub field-loose : {n p : ℕ} → w ≡ NotAt n p → FieldIs most number s at (NoValue n p)
     unfolding judgedFrom
-    field-loose e = record { is = sym (from-white ∙ off _ (ap place e)) }
+    field-loose e = record { is = sym (from-white ∙ off _ (ap judgedPlace e)) }
 
     module _ {i : ℕ} (e : w ≡ At i) where
       judged : fieldAt most number s at ≡ (judge (leb 1 v && leb v most) number first >>= λ _. good (record { value = v; next = i }))
       unfolding judgedFrom
-      judged = from-white ∙ on _ (ap place e)
+      judged = from-white ∙ on _ (ap judgedPlace e)
 
       pub field-low : v < 1 → FieldIs most number s at (NoValue number first)
       field-low h = record { is = sym (judged ∙ fail number first _ (not-first _ (lt-leb 1 v h))) }
@@ -105,16 +106,16 @@ module _ (number : ℕ) {most : ℕ} {s : List ℕ} {at first v end : ℕ} (top 
 module _ {s : List ℕ} {at : ℕ} {w : FieldRead} (W : FieldIs 256 23 s at w) where
   pub sizes-first : {n p : ℕ} → w ≡ NoValue n p → SizesAre s at (NoSizes n p)
   unfolding sizesAt
-  sizes-first e = record { is = sym (off _ (sym (W .is) ∙ ap field e)) }
+  sizes-first e = record { is = sym (off _ (sym (W .is) ∙ ap judgedField e)) }
 
   module _ {v i : ℕ} (e : w ≡ Value v i) {h : FieldRead} (H : FieldIs 256 23 s i h) where
     pub sizes-second : {n p : ℕ} → h ≡ NoValue n p → SizesAre s at (NoSizes n p)
     unfolding sizesAt
-    sizes-second f = record { is = sym (on _ (sym (W .is) ∙ ap field e) ∙ off _ (sym (H .is) ∙ ap field f)) }
+    sizes-second f = record { is = sym (on _ (sym (W .is) ∙ ap judgedField e) ∙ off _ (sym (H .is) ∙ ap judgedField f)) }
 
     pub sizes-good : {u j : ℕ} → h ≡ Value u j → SizesAre s at (Sizes v u j)
     unfolding sizesAt
-    sizes-good f = record { is = sym (on _ (sym (W .is) ∙ ap field e) ∙ on _ (sym (H .is) ∙ ap field f)) }
+    sizes-good f = record { is = sym (on _ (sym (W .is) ∙ ap judgedField e) ∙ on _ (sym (H .is) ∙ ap judgedField f)) }
 
 -- ---- a header
 module _ {s : List ℕ} {at : ℕ} {t : Bool} (T : Stands magic s at t) where
@@ -125,8 +126,8 @@ module _ {s : List ℕ} {at : ℕ} {t : Bool} (T : Stands magic s at t) where
   module _ (e : not t ≡ false) {g : PlaceRead} (G : White s (at + 2) g) where
     pub header-loose : {n p : ℕ} → g ≡ NotAt n p → HeaderIs s at (NoSizes n p)
     unfolding headerAt
-    header-loose f = record { is = sym (pass 21 at _ (sym (T .is) ∙ not-false t e) ∙ off _ (sym (G .is) ∙ ap place f)) }
+    header-loose f = record { is = sym (pass 21 at _ (sym (T .is) ∙ not-false t e) ∙ off _ (sym (G .is) ∙ ap judgedPlace f)) }
 
     pub header-sizes : {i : ℕ} → g ≡ At i → {r : HeaderRead} → SizesAre s i r → HeaderIs s at r
     unfolding headerAt sizesAt
-    header-sizes f S = record { is = S .is ∙ sym (pass 21 at _ (sym (T .is) ∙ not-false t e) ∙ on _ (sym (G .is) ∙ ap place f)) }
+    header-sizes f S = record { is = S .is ∙ sym (pass 21 at _ (sym (T .is) ∙ not-false t e) ∙ on _ (sym (G .is) ∙ ap judgedPlace f)) }

@@ -10,10 +10,10 @@ use lib.Dec.{eqb}
 use borrow.Author.Tests.{eq-eqb, ne-eqb, not-true, not-false}
 use Rattle.rules.specs.Decimals.{isDigit}
 use Rattle.rules.specs.P4.{isEnd, isWhite, stands, commentAt, mix, digitsAt}
-use Rattle.p4_laws.specs.Stores.{drop-here}
+use Rattle.text.specs.Places.{drop-here}
 use Rattle.p4_laws.specs.Scans.{mix-in, mix-white, mix-hash, mix-stop, comment-end, comment-more, digit-more, digit-stop, Alike, alike, alike-trans, alike-is}
 use Rattle.p4_header.specs.declared.PlaceRead.the-variants.{At, NotAt}
-use Rattle.p4_header.specs.Reads.{place, Stands, Comment, Mix, Digits}
+use Rattle.p4_header.specs.Reads.{Stands, Comment, Mix, Digits}
 
 -- ---- a word
 pub record Standing (word s : List ℕ) (at i : ℕ) : Type 0 where

@@ -13,17 +13,17 @@ use Rattle.p4_header.specs.declared.HeaderRead.{HeaderRead}
 use Rattle.p4_header.specs.declared.HeaderRead.the-variants.{Sizes, NoSizes}
 
 -- ---- the answers' cases
-abbrev pub place : PlaceRead → Judged ℕ
-place (At i) = good i
-place (NotAt n p) = wrong n p
+abbrev pub judgedPlace : PlaceRead → Judged ℕ
+judgedPlace (At i) = good i
+judgedPlace (NotAt n p) = wrong n p
 
-abbrev pub field : FieldRead → Judged Field
-field (Value v i) = good (record { value = v; next = i })
-field (NoValue n p) = wrong n p
+abbrev pub judgedField : FieldRead → Judged Field
+judgedField (Value v i) = good (record { value = v; next = i })
+judgedField (NoValue n p) = wrong n p
 
-abbrev pub header : HeaderRead → Judged Header
-header (Sizes w h i) = good (record { width = w; height = h; next = i })
-header (NoSizes n p) = wrong n p
+abbrev pub judgedHeader : HeaderRead → Judged Header
+judgedHeader (Sizes w h i) = good (record { width = w; height = h; next = i })
+judgedHeader (NoSizes n p) = wrong n p
 
 -- width and height, as the last part of `headerAt`
 unfoldable pub sizesAt : List ℕ → ℕ → Judged Header
@@ -37,10 +37,10 @@ pub record Stands (word s : List ℕ) (at : ℕ) (r : Bool) : Type 0 where
   pub is : r ≡ stands word (drop at s)
 
 pub record Comment (s : List ℕ) (at : ℕ) (r : PlaceRead) : Type 0 where
-  pub is : place r ≡ commentAt (drop at s) at
+  pub is : judgedPlace r ≡ commentAt (drop at s) at
 
 pub record White (s : List ℕ) (at : ℕ) (r : PlaceRead) : Type 0 where
-  pub is : place r ≡ white s at
+  pub is : judgedPlace r ≡ white s at
 
 pub record Mix (s : List ℕ) (at r : ℕ) : Type 0 where
   pub is : r ≡ mix false (drop at s) at
@@ -51,10 +51,10 @@ pub record Digits (s : List ℕ) (at value next : ℕ) : Type 0 where
   pub next-is : next ≡ digitsAt 0 (drop at s) at .1
 
 pub record FieldIs (most number : ℕ) (s : List ℕ) (at : ℕ) (r : FieldRead) : Type 0 where
-  pub is : field r ≡ fieldAt most number s at
+  pub is : judgedField r ≡ fieldAt most number s at
 
 pub record SizesAre (s : List ℕ) (at : ℕ) (r : HeaderRead) : Type 0 where
-  pub is : header r ≡ sizesAt s at
+  pub is : judgedHeader r ≡ sizesAt s at
 
 pub record HeaderIs (s : List ℕ) (at : ℕ) (r : HeaderRead) : Type 0 where
-  pub is : header r ≡ headerAt s at
+  pub is : judgedHeader r ≡ headerAt s at

@@ -5,13 +5,13 @@ use Prim.Native.Nat.{ℕ}
 use Rattle.rules.specs.P4.{Judged, good, wrong, Header}
 use Rattle.p4_header.specs.declared.HeaderRead.{HeaderRead}
 use Rattle.p4_header.specs.declared.HeaderRead.the-variants.{Sizes, NoSizes}
-use Rattle.p4_header.specs.Reads.{header, HeaderIs}
+use Rattle.p4_header.specs.Reads.{judgedHeader, HeaderIs}
 
 made : Judged Header → HeaderRead
 made (good h) = Sizes (h .width) (h .height) (h .next)
 made (wrong n p) = NoSizes n p
 
-made-again : (r : HeaderRead) → made (header r) ≡ r
+made-again : (r : HeaderRead) → made (judgedHeader r) ≡ r
 unfolding made
 made-again (Sizes w h i) = refl
 made-again (NoSizes n p) = refl

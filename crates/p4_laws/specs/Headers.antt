@@ -7,10 +7,12 @@ use native.Mathlib.Omega.{arith}
 use lib.ListN.{length, getD, drop, length-drop}
 use lib.Dec.{leb, ltb, eqb}
 use borrow.Author.Tests.{leb-true}
+use Rattle.integers.specs.Tests.{first-of, second-of}
 use Rattle.rules.specs.Solids.{sliceBytes}
 use Rattle.rules.specs.P4.{good, isEnd, isWhite, white, mix, digitsAt, Field, fieldAt, Header, headerAt, stands, magic, imageAt}
+use Rattle.stack.specs.Sides.{Side}
 use Rattle.p4_laws.specs.White.{Byte, isSpace, isHash, isOther, byte, there, space-reads, other-refused, comment-reads, Ends, comment-ends}
-use Rattle.p4_laws.specs.Judging.{made, passed, first-of, second-of}
+use Rattle.p4_laws.specs.Judging.{made, passed}
 
 -- white space that is read is there
 pub white-in : (s : List ℕ) (q : ℕ) {i : ℕ} → white s q ≡ good i → i ≤ length s
@@ -48,9 +50,12 @@ field-in most number s at {f} e =
     let b = second-of (leb 1 (d .0)) (leb (d .0) most) (q .0) in
     subst (FieldIn most s) g (record { some = leb-true 1 (d .0) a; most-is = leb-true (d .0) most b; inside = white-in s (d .1) (w .1) })
 
+side-in : {s : List ℕ} {f : Field} → FieldIn 256 s f → Side (f .value)
+side-in h = record { some = h .some; most = h .most-is }
+
 pub record HeaderIn (s : List ℕ) (h : Header) : Type 0 where
-  pub wide : (1 ≤ h .width) × (h .width ≤ 256)
-  pub high : (1 ≤ h .height) × (h .height ≤ 256)
+  pub wide : Side (h .width)
+  pub high : Side (h .height)
   pub inside : h .next ≤ length s
 
 pub header-in : (s : List ℕ) (at : ℕ) {h : Header} → headerAt s at ≡ good h → HeaderIn s h
@@ -63,7 +68,7 @@ header-in s at {h} e =
     let q : record { width = w .0 .value; height = v .0 .value; next = v .0 .next } ≡ h = let x = v .2 in cc in
     let a = field-in 256 23 s (g .0) (w .1) in
     let b = field-in 256 23 s (w .0 .next) (v .1) in
-    subst (HeaderIn s) q (record { wide = (a .some, a .most-is); high = (b .some, b .most-is); inside = b .inside })
+    subst (HeaderIn s) q (record { wide = side-in a; high = side-in b; inside = b .inside })
 
 -- an image's rows are inside
 pub image-in : (w h : ℕ) (s : List ℕ) (at : ℕ) {i : ℕ} → imageAt w h s at ≡ good i → i + sliceBytes w h ≤ length s

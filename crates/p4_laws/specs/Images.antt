@@ -11,6 +11,7 @@ use lib.Dec.{eqb}
 use borrow.Author.Tests.{eq-eqb, ne-eqb, eqb-true, eqb-false}
 use Rattle.rules.specs.Solids.{rowBytes, sliceBytes}
 use Rattle.rules.specs.P4.{Judged, good, wrong, _>>=_, _>>_, judge, rows, imageAt, imagesAt, Header, headerAt, stands, sizes, Contents, contents}
+use Rattle.stack.specs.Sides.{Sides}
 use Rattle.p4_laws.specs.Judging.{made, passed, pass, fail}
 use Rattle.p4_laws.specs.Rows.{length-rows, rows-twice, rows-more}
 use Rattle.p4_laws.specs.Headers.{header-in, image-in}
@@ -95,14 +96,12 @@ module _ (w h : ℕ) (wide : 1 ≤ w) (s : List ℕ) where
           subst (Counted w h (suc k) (eqb at (length s))) g (one-more k at (m .1) (ih (m .0 + sliceBytes w h) (r .0) (r .1)))
 
 -- ---- a stack that is read
-pub record Sound (c : Contents) : Type 0 where
+pub record ReadHolds (c : Contents) : Type 0 where
   pub w : ℕ
   pub h : ℕ
   pub d : ℕ
   pub stack-is : c .stack ≡ sizes w h d
-  pub wide : (1 ≤ w) × (w ≤ 256)
-  pub high : (1 ≤ h) × (h ≤ 256)
-  pub deep : (1 ≤ d) × (d ≤ 256)
+  pub sides : Sides w h d
   pub many : length (c .bytes) ≡ d * sliceBytes w h
   pub clean : rows (d * h) w (c .bytes) ≡ c .bytes
 
@@ -112,25 +111,23 @@ unfolding headerAt stands _>>=_ judge
 not-empty [] {h} e = let z : _≡_ {A = ℕ} 0 1 = cc in absurd (omega arith)
 not-empty (b ∷ s) e = ne-eqb 0 (length (b ∷ s)) (λ f. omega arith)
 
-pub sound : (s : List ℕ) {c : Contents} → contents s ≡ good c → Sound c
+pub read-holds : (s : List ℕ) {c : Contents} → contents s ≡ good c → ReadHolds c
 unfolding contents
-sound s {c} e =
+read-holds s {c} e =
     let a = made _ (headerAt s 0) e in
     let w = a .0 .width in
     let h = a .0 .height in
     let b = made _ (imagesAt 256 w h s 0) (a .2) in
     let g : record { stack = sizes w h (b .0 .0); bytes = b .0 .1 } ≡ c = let x = b .2 in cc in
     let i = header-in s 0 (a .1) in
-    let n = counted w h (i .wide .0) s 256 0 (b .1) in
-    subst Sound g
+    let n = counted w h (i .wide .some) s 256 0 (b .1) in
+    subst ReadHolds g
     (record {
       w = w;
       h = h;
       d = b .0 .0;
       stack-is = refl;
-      wide = i .wide;
-      high = i .high;
-      deep = (n .some (not-empty s (a .1)), n .few);
+      sides = record { wide = i .wide; high = i .high; deep = record { some = n .some (not-empty s (a .1)); most = n .few } };
       many = n .bytes;
       clean = n .clean;
     })

@@ -1,6 +1,6 @@
 -- A judgement step by step: how it goes on or ends by what its first part gives, and what each part gave if all is good.
-use mathlib.Core.Path.{_≡_, refl, ap, _∙_}
-use mathlib.Core.Bool.{Bool, true, false, _&&_}
+use mathlib.Core.Path.{_≡_, refl, ap}
+use mathlib.Core.Bool.{Bool, true, false}
 use Prim.Native.Nat.{ℕ}
 use native.Mathlib.Omega.{arith}
 use Rattle.rules.specs.P4.{Judged, good, wrong, _>>=_, judge}
@@ -32,22 +32,3 @@ module _ {B : Type 0} (n p : ℕ) (k : Unit {0} → Judged B) where
   unfolding _>>=_ judge
   passed true e = (refl, e)
   passed false {b} e = let z : _≡_ {A = ℕ} 0 1 = cc in absurd (omega arith)
-
--- ---- a test of two parts
-pub both : {a b : Bool} → a ≡ true → b ≡ true → (a && b) ≡ true
-both {a} {b} p q = ap (λ (x : Bool). x && b) p ∙ q
-
-pub not-first : {a : Bool} (b : Bool) → a ≡ false → (a && b) ≡ false
-not-first b p = ap (λ (x : Bool). x && b) p
-
-pub not-second : (a : Bool) {b : Bool} → b ≡ false → (a && b) ≡ false
-not-second true q = q
-not-second false q = refl
-
-pub first-of : (a b : Bool) → (a && b) ≡ true → a ≡ true
-first-of true b e = refl
-first-of false b e = e
-
-pub second-of : (a b : Bool) → (a && b) ≡ true → b ≡ true
-second-of true b e = e
-second-of false b e = let z : _≡_ {A = ℕ} 0 1 = cc in absurd (omega arith)

@@ -8,10 +8,10 @@ use native.Mathlib.Omega.{arith}
 use lib.Dec.{eqb, leb, ltb}
 use lib.ListN.{length, getD, drop, length-drop, List·getD-eq-default}
 use borrow.Author.Tests.{eqb-true, eqb-false}
+use Rattle.integers.specs.Tests.{second-of}
 use Rattle.rules.specs.Solids.{sliceBytes}
 use Rattle.rules.specs.Decimals.{isDigit}
 use Rattle.rules.specs.P4.{Judged, good, wrong, _>>=_, judge, stands, magic, isEnd, isWhite, commentAt, white, mix, digitsAt, fieldAt, headerAt, imageAt, imagesAt, contents}
-use Rattle.p4_laws.specs.Judging.{second-of}
 use Rattle.p4_laws.specs.Stores.{dropped}
 use Rattle.p4_laws.specs.Scans.{mix-white, mix-hash, mix-stop, digit-more, digit-stop}
 use Rattle.p4_laws.specs.White.{Byte, isSpace, isHash, isOther, byte, space-reads, other-refused, comment-reads, Ends, comment-ends}

@@ -9,11 +9,13 @@ use lib.Dec.{ltb}
 use lib.ListN.{length, drop, length-append, length-drop}
 use lib.Seq.{drop-drop, drop-append-seam}
 use borrow.Author.Tests.{eq-eqb, ne-eqb, le-leb, lt-ltb, ltb-true, ltb-false}
+use Rattle.integers.specs.Tests.{both}
 use Rattle.rules.specs.Solids.{sliceBytes}
 use Rattle.rules.specs.Decimals.{isDigit, figure, decimal}
 use Rattle.rules.specs.P4.{good, stands, magic, isEnd, isWhite, white, mix, digitsAt, fieldAt, headerAt, rows, imageAt, imagesAt, sizes, contents, plainHeader, slices}
 use Rattle.text.specs.Decimals.{decimal-one, decimal-more}
-use Rattle.p4_laws.specs.Judging.{on, pass, both}
+use Rattle.stack.specs.Sides.{Side}
+use Rattle.p4_laws.specs.Judging.{on, pass}
 use Rattle.p4_laws.specs.Scans.{mix-stop, digit-more, digit-stop}
 use Rattle.p4_laws.specs.Stores.{dropped}
 use Rattle.p4_laws.specs.White.{space-reads}
@@ -41,12 +43,13 @@ figure-value v n i t =
     let e : v * 10 + (figure n - 48) ≡ v * 10 + n % 10 = omega arith in
     digit-more (figure n) t i v (figure-digit n) ∙ ap (λ (x : ℕ). digitsAt x t (i + 1)) e
 
-pub record Told (n : ℕ) : Type 0 where
-  pub value : (t : List ℕ) (i : ℕ) → digitsAt 0 (decimal n ++ t) i ≡ digitsAt n t (i + length (decimal n))
-  pub starts : (t : List ℕ) (i : ℕ) → mix false (decimal n ++ t) i ≡ i
-  pub some : 1 ≤ length (decimal n)
+-- what the scans give of a number's digits
+record Scanned (n : ℕ) : Type 0 where
+  value : (t : List ℕ) (i : ℕ) → digitsAt 0 (decimal n ++ t) i ≡ digitsAt n t (i + length (decimal n))
+  starts : (t : List ℕ) (i : ℕ) → mix false (decimal n ++ t) i ≡ i
+  some : 1 ≤ length (decimal n)
 
-one : (n : ℕ) → n < 10 → Told n
+one : (n : ℕ) → n < 10 → Scanned n
 unfolding figure
 one n h =
     let d = decimal-one n h in
@@ -60,7 +63,7 @@ one n h =
       some = omega (arith, ap length d);
     }
 
-more : (n : ℕ) → 10 ≤ n → Told (n / 10) → Told n
+more : (n : ℕ) → 10 ≤ n → Scanned (n / 10) → Scanned n
 more n h T =
     let d = decimal-more n h in
     let l = ap length d ∙ length-append (decimal (n / 10)) (figure n ∷ []) in
@@ -80,11 +83,11 @@ more n h T =
       some = let s = T .some in omega arith;
     }
 
-told : (f n : ℕ) → n ≤ f → Told n
-told zero n h = one n (omega arith)
-told (suc f) n h = by (ltb n 10) refl (told f (n / 10))
+scanned : (f n : ℕ) → n ≤ f → Scanned n
+scanned zero n h = one n (omega arith)
+scanned (suc f) n h = by (ltb n 10) refl (scanned f (n / 10))
   where
-    by : (t : Bool) → ltb n 10 ≡ t → (n / 10 ≤ f → Told (n / 10)) → Told n
+    by : (t : Bool) → ltb n 10 ≡ t → (n / 10 ≤ f → Scanned (n / 10)) → Scanned n
     by true e T = one n (ltb-true n 10 e)
     by false e T = let l = ltb-false n 10 e in more n l (T (omega arith))
 
@@ -100,7 +103,7 @@ field-reads : (most number : ℕ) (s : List ℕ) (p n b : ℕ) (t : List ℕ) �
     → drop p s ≡ decimal n ++ (b ∷ t) → fieldAt most number s p ≡ good (record { value = n; next = p + length (decimal n) + 1 })
 unfolding fieldAt
 field-reads most number s p n b t d w g l E =
-    let T = told n n (omega arith) in
+    let T = scanned n n (omega arith) in
     let q = p + length (decimal n) in
     let P : mix false (drop p s) p ≡ p = ap (λ (x : List ℕ). mix false x p) E ∙ T .starts (b ∷ t) p in
     let M : digitsAt 0 (drop p s) p ≡ (n, q) = ap (λ (x : List ℕ). digitsAt 0 x p) E ∙ T .value (b ∷ t) p ∙ digit-stop b t q n d in
@@ -109,7 +112,7 @@ field-reads most number s p n b t d w g l E =
     rw P (rw M (pass 22 p _ (lt-ltb p q (omega arith)) ∙ on _ W ∙ pass number p _ (both (le-leb 1 n g) (le-leb n most l))))
 
 -- ---- a header in its plain form
-module _ (w h : ℕ) (wide : (1 ≤ w) × (w ≤ 256)) (high : (1 ≤ h) × (h ≤ 256)) where
+module _ (w h : ℕ) (wide : Side w) (high : Side h) where
   header-reads : (s : List ℕ) (at : ℕ) (t : List ℕ) → drop at s ≡ plainHeader w h ++ t
       → headerAt s at ≡ good (record { width = w; height = h; next = at + length (plainHeader w h) })
   unfolding headerAt plainHeader stands isWhite isEnd isDigit
@@ -126,8 +129,8 @@ module _ (w h : ℕ) (wide : (1 ≤ w) × (w ≤ 256)) (high : (1 ≤ h) × (h �
       let k : d + 1 ≡ at + length (plainHeader w h) = omega (arith, header-length w h) in
       pass 21 at _ (ap (stands magic) F)
       ∙ on _ (white-here s a 10 _ refl G)
-      ∙ on _ (field-reads 256 23 s b w 32 _ refl refl (wide .0) (wide .1) W)
-      ∙ on _ (field-reads 256 23 s (c + 1) h 10 t refl refl (high .0) (high .1) H)
+      ∙ on _ (field-reads 256 23 s b w 32 _ refl refl (wide .some) (wide .most) W)
+      ∙ on _ (field-reads 256 23 s (c + 1) h 10 t refl refl (high .some) (high .most) H)
       ∙ ap (λ (x : ℕ). good (record { width = w; height = h; next = x })) k
 
   -- ---- images in their plain form
@@ -147,7 +150,7 @@ module _ (w h : ℕ) (wide : (1 ≤ w) × (w ≤ 256)) (high : (1 ≤ h) × (h �
 
   rows-once : (bs t : List ℕ) → sliceBytes w h ≤ length bs → rows h w (rows h w bs ++ t) ≡ rows h w bs
   unfolding sliceBytes
-  rows-once bs t l = rows-twice w (wide .0) h bs t l
+  rows-once bs t l = rows-twice w (wide .some) h bs t l
 
   images-read : (s : List ℕ) (K k at : ℕ) (bs : List ℕ) → k ≤ K → k * sliceBytes w h ≤ length bs → at ≤ length s → drop at s ≡ slices k w h bs
       → imagesAt K w h s at ≡ good (k, rows (k * h) w bs)
@@ -162,7 +165,7 @@ module _ (w h : ℕ) (wide : (1 ≤ w) × (w ≤ 256)) (high : (1 ≤ h) × (h �
       let T = slices k w h (drop S bs) in
       let i = at + length (plainHeader w h) in
       let p = suc-mul k S in
-      let n = slice-rows w h (wide .0) bs (omega arith) in
+      let n = slice-rows w h (wide .some) bs (omega arith) in
       let m = sym (length-drop at s) ∙ ap length E ∙ length-append (plainHeader w h) (R ++ T) ∙ ap (λ (x : ℕ). length (plainHeader w h) + x) (length-append R T) in
       let D : drop i s ≡ R ++ T = behind s at (plainHeader w h) (R ++ T) E in
       let N : drop (i + S) s ≡ T = ap (λ (x : ℕ). drop (i + x) s) (sym n) ∙ behind s i R T D in
@@ -172,10 +175,10 @@ module _ (w h : ℕ) (wide : (1 ≤ w) × (w ≤ 256)) (high : (1 ≤ h) × (h �
       ∙ ap (λ (x : List ℕ). good (suc k, x)) (ap (λ (x : List ℕ). rows h w x ++ rows (k * h) w (drop S bs)) D ∙ ap (λ (x : List ℕ). x ++ rows (k * h) w (drop S bs)) (rows-once bs T (omega arith)) ∙ sym (slice-more k bs))
 
   -- ---- a stack in its plain form
-  pub stack-reads : (d : ℕ) (bs : List ℕ) → (1 ≤ d) × (d ≤ 256) → d * sliceBytes w h ≤ length bs
+  pub stack-reads : (d : ℕ) (bs : List ℕ) → Side d → d * sliceBytes w h ≤ length bs
       → contents (slices d w h bs) ≡ good (record { stack = sizes w h d; bytes = rows (d * h) w bs })
   unfolding contents
   stack-reads d bs deep l =
       let s = slices d w h bs in
-      on _ (header-reads s 0 (rows h w bs ++ slices (d - 1) w h (drop (sliceBytes w h) bs)) (slices-more w h d bs (deep .0)))
-      ∙ on _ (images-read s 256 d 0 bs (deep .1) l (omega arith) refl)
+      on _ (header-reads s 0 (rows h w bs ++ slices (d - 1) w h (drop (sliceBytes w h) bs)) (slices-more w h d bs (deep .some)))
+      ∙ on _ (images-read s 256 d 0 bs (deep .most) l (omega arith) refl)

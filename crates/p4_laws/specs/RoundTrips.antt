@@ -17,7 +17,8 @@ use Rattle.rules.specs.Solids.{stackBytes, permittedStack, look}
 use Rattle.rules.specs.Pick.{pickOf}
 use Rattle.rules.specs.P4.{good, wrong, Contents, contents, plain, ReadPromise, WritePromise}
 use Rattle.p4_laws.specs.Places.{placed}
-use Rattle.p4_laws.specs.Trips.{stackRows, plain-reads, plain-rows, rows-bytes, rows-look, rows-pick, read-bytes, read-permitted, read-plain, read-again, read-accepted, read-accepts, write-accepted, write-accepts}
+use Rattle.p4_laws.specs.Looks.{stackRows, rows-bytes, rows-look}
+use Rattle.p4_laws.specs.Trips.{plain-reads, plain-rows, rows-pick, read-bytes, read-permitted, read-plain, read-again, read-accepted, read-accepts, write-accepted, write-accepts}
 
 -- ---- two answers that a promise allows are equal, and so are the buffers
 pub read-settled : {s before a b : List ℕ} {q r : Reading} → ReadPromise s before a q → ReadPromise s before b r → (q ≡ r) × (a ≡ b)

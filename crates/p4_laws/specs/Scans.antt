@@ -2,13 +2,11 @@
 use mathlib.Core.Path.{_≡_, refl, sym, ap, _∙_}
 use mathlib.Core.Bool.{Bool, true, false, not}
 use mathlib.Core.List.{List, [], _∷_}
-use Prim.Native.Nat.{ℕ, _+_, _-_, _*_, _≤_, min}
+use Prim.Native.Nat.{ℕ, _+_, _-_, _*_, min}
 use native.Mathlib.Omega.{arith}
-use lib.Dec.{leb}
-use borrow.Author.Tests.{eq-eqb, ne-eqb, leb-true}
+use borrow.Author.Tests.{eq-eqb, ne-eqb}
 use Rattle.rules.specs.Decimals.{isDigit}
 use Rattle.rules.specs.P4.{good, isEnd, isWhite, commentAt, mix, digitsAt}
-use Rattle.p4_laws.specs.Judging.{first-of, second-of}
 
 module _ (b : ℕ) (bs : List ℕ) (i : ℕ) where
   pub mix-in : mix true (b ∷ bs) i ≡ mix (not (isEnd b)) bs (i + 1)
@@ -43,10 +41,6 @@ module _ (b : ℕ) (bs : List ℕ) (i : ℕ) where
     pub digit-stop : isDigit b ≡ false → digitsAt v (b ∷ bs) i ≡ (v, i)
     unfolding digitsAt
     digit-stop e = rw (e, digitsAt)
-
-pub digit-range : (b : ℕ) → isDigit b ≡ true → (48 ≤ b) × (b ≤ 57)
-unfolding isDigit
-digit-range b e = (leb-true 48 b (first-of (leb 48 b) (leb b 57) e), leb-true b 57 (second-of (leb 48 b) (leb b 57) e))
 
 -- ---- values of 100000 and above are alike: so a reader may stop counting there
 

@@ -2,15 +2,12 @@
 use mathlib.Core.Path.{_≡_, refl, sym, ap, _∙_}
 use mathlib.Core.List.{List, [], _∷_}
 use Prim.Native.Nat.{ℕ, suc, _+_, _≤_, _<_}
-use native.Mathlib.Numerals.{add-one}
 use native.Mathlib.Omega.{arith}
 use lib.ListN.{length, getD, drop, set, length-drop}
-use lib.Seq.{sets, set-comm, drop-cons}
+use lib.Seq.{sets, set-comm}
+use Rattle.text.specs.Places.{drop-here}
 
-pub drop-here : (s : List ℕ) (i : ℕ) → i < length s → drop i s ≡ getD s i 0 ∷ drop (i + 1) s
-drop-here s i h = rw add-one (drop-cons s i 0 h)
-
--- and back: what stands at a place, and behind it
+-- what stands at a place, and behind it
 pub dropped : (s : List ℕ) (i : ℕ) {b : ℕ} {l : List ℕ} → drop i s ≡ b ∷ l → (getD s i 0 ≡ b) × (drop (i + 1) s ≡ l)
 dropped s i {b} {l} e =
     let n = sym (length-drop i s) ∙ ap length e in

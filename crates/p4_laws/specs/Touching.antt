@@ -12,7 +12,7 @@ use lib.Seq.{drop-drop}
 use borrow.Author.Tests.{lt-ltb, eqb-true, eqb-false}
 use Rattle.rules.specs.P4.{good, wrong, _>>=_, judge, stands, magic, isEnd, isWhite, commentAt, white, mix, digitsAt, fieldAt, headerAt}
 use Rattle.p4_laws.specs.Judging.{on, pass}
-use Rattle.p4_laws.specs.Stores.{drop-here}
+use Rattle.text.specs.Places.{drop-here}
 use Rattle.p4_laws.specs.Scans.{mix-in, mix-hash, comment-end, comment-more}
 use Rattle.p4_laws.specs.White.{there, comment-reads, Ends, comment-ends}
 

@@ -2,7 +2,7 @@
 use mathlib.Core.Path.{_≡_, refl, sym, ap, subst, _∙_}
 use mathlib.Core.Bool.{true}
 use mathlib.Core.List.{List, [], _++_}
-use Prim.Native.Nat.{ℕ, _*_, _≤_}
+use Prim.Native.Nat.{ℕ, _≤_}
 use native.Mathlib.Omega.{arith}
 use lib.Dec.{leb}
 use lib.IntN.{ℤ, natAbs}
@@ -16,64 +16,46 @@ use Rattle.rules.specs.declared.Reading.{Reading}
 use Rattle.rules.specs.declared.Reading.the-variants.{Read}
 use Rattle.rules.specs.declared.Writing.{Writing}
 use Rattle.rules.specs.declared.Writing.the-variants.{Written}
-use Rattle.rules.specs.Solids.{stackBytes, permittedStack, look}
+use Rattle.rules.specs.Solids.{stackBytes, permittedStack}
 use Rattle.rules.specs.Pick.{pickOf}
-use Rattle.rules.specs.P4.{Judged, good, wrong, rows, Contents, contents, reading, readAnswer, stored, sizes, plain, writing, writeAnswer, ReadPromise, WritePromise}
+use Rattle.rules.specs.P4.{Judged, good, wrong, Contents, contents, reading, readAnswer, stored, sizes, plain, writing, writeAnswer, ReadPromise, WritePromise}
+use Rattle.stack.specs.Sides.{Sized, sized, stack-is, permits, permitted-too}
 use Rattle.p4_laws.specs.Judging.{on, pass, made, passed}
 use Rattle.p4_laws.specs.Plain.{slices-front, slices-rows}
-use Rattle.p4_laws.specs.Images.{Sound, sound}
+use Rattle.p4_laws.specs.Images.{ReadHolds, read-holds}
 use Rattle.p4_laws.specs.ReadBack.{stack-reads}
-use Rattle.p4_laws.specs.Looks.{sized, permits, permitted-too, look-same, rows-long, pick-same}
+use Rattle.p4_laws.specs.Looks.{stackRows, rows-bytes, rows-look, pick-same}
 
 -- ---- written and read back
 
--- a stack's rows, padding bits zero
-unfoldable pub stackRows : Stack → List ℕ → List ℕ
-stackRows k bytes = rows (natAbs (k .depth) * natAbs (k .height)) (natAbs (k .width)) bytes
-
 module _ (k : Stack) (bytes : List ℕ) (e : permittedStack k bytes ≡ true) where
-  is-sizes : k ≡ sizes (natAbs (k .width)) (natAbs (k .height)) (natAbs (k .depth))
-  is-sizes = let s = sized k bytes e in λ i. record { width = s .wide .0 i; height = s .high .0 i; depth = s .deep .0 i }
+  its-sides : Sized k bytes
+  its-sides = sized e
 
   -- the plain form reads back as the same sizes and the same rows
   pub plain-reads : contents (plain k bytes) ≡ good (record { stack = k; bytes = stackRows k bytes })
   unfolding plain stackRows stackBytes
   plain-reads =
-      let s = sized k bytes e in
-      let w = natAbs (k .width) in
-      let h = natAbs (k .height) in
-      let d = natAbs (k .depth) in
-      stack-reads w h (s .wide .1, s .wide .2) (s .high .1, s .high .2) d bytes (s .deep .1, s .deep .2) (s .enough)
-      ∙ ap (λ (x : Stack). good (record { stack = x; bytes = rows (d * h) w bytes })) (sym is-sizes)
+      let s = its-sides .of in
+      stack-reads (natAbs (k .width)) (natAbs (k .height)) (s .wide .side) (s .high .side) (natAbs (k .depth)) bytes (s .deep .side) (its-sides .enough)
+      ∙ ap (λ (x : Stack). good (record { stack = x; bytes = stackRows k bytes })) (sym (stack-is s))
 
   -- and is the plain form of these rows
   pub plain-rows : plain k (stackRows k bytes) ≡ plain k bytes
   unfolding plain stackRows stackBytes
-  plain-rows = let s = sized k bytes e in slices-rows (natAbs (k .width)) (natAbs (k .height)) (s .wide .1) (natAbs (k .depth)) bytes (s .enough)
-
-  pub rows-bytes : length (stackRows k bytes) ≡ stackBytes k
-  unfolding stackRows stackBytes
-  rows-bytes = let s = sized k bytes e in rows-long (natAbs (k .width)) (natAbs (k .height)) (natAbs (k .depth)) (s .wide .1) bytes [] (s .enough)
-
-  -- these have the same voxels, for any lent bytes, whatever padding bits and bytes behind
-  pub rows-look : (behind : List ℕ) (p : Vector) → look (IsStack k) (stackRows k bytes ++ behind) p ≡ look (IsStack k) bytes p
-  unfolding stackRows stackBytes
-  rows-look behind p =
-      let s = sized k bytes e in
-      subst (λ (x : Stack). look (IsStack x) (rows (natAbs (k .depth) * natAbs (k .height)) (natAbs (k .width)) bytes ++ behind) p ≡ look (IsStack x) bytes p) (sym is-sizes)
-      (look-same (natAbs (k .width)) (natAbs (k .height)) (natAbs (k .depth)) (s .wide .1) bytes behind (s .enough) p)
+  plain-rows = slices-rows (natAbs (k .width)) (natAbs (k .height)) (its-sides .of .wide .side .some) (natAbs (k .depth)) bytes (its-sides .enough)
 
   rows-permitted : (behind : List ℕ) → permittedStack k (stackRows k bytes ++ behind) ≡ true
-  rows-permitted behind = let n = rows-bytes in permitted-too k bytes (stackRows k bytes ++ behind) e (simp length-append (omega arith))
+  rows-permitted behind = let n = rows-bytes k bytes e in permitted-too k bytes (stackRows k bytes ++ behind) e (simp length-append (omega arith))
 
-  -- and so every pick is the same pick
+  -- these have the same voxels, so every pick is the same pick
   pub rows-pick : (behind : List ℕ) (p : Vector) (frame reach : ℤ) → pickOf (IsStack k) (stackRows k bytes ++ behind) p frame reach ≡ pickOf (IsStack k) bytes p frame reach
-  rows-pick behind = pick-same k bytes (stackRows k bytes ++ behind) (rows-permitted behind ∙ sym e) (rows-look behind)
+  rows-pick behind = pick-same k bytes (stackRows k bytes ++ behind) (rows-permitted behind ∙ sym e) (rows-look k bytes e behind)
 
 -- ---- read and written out
 module _ (s : List ℕ) {c : Contents} (e : contents s ≡ good c) where
-  sure : Sound c
-  sure = sound s e
+  sure : ReadHolds c
+  sure = read-holds s e
 
   in-stack : (P : Stack → Type 0) → P (sizes (sure .w) (sure .h) (sure .d)) → P (c .stack)
   in-stack P x = subst P (sym (sure .stack-is)) x
@@ -87,14 +69,14 @@ module _ (s : List ℕ) {c : Contents} (e : contents s ≡ good c) where
   read-permitted behind =
       let n = sure .many in
       in-stack (λ k. permittedStack k (c .bytes ++ behind) ≡ true)
-      (permits (sure .w) (sure .h) (sure .d) (c .bytes ++ behind) (sure .wide) (sure .high) (sure .deep) (simp length-append (omega arith)))
+      (permits (c .bytes ++ behind) (sure .sides) (simp length-append (omega arith)))
 
   -- it is written out in its plain form, whatever stands behind it
   pub read-plain : (behind : List ℕ) → plain (c .stack) (c .bytes ++ behind) ≡ plain (c .stack) (c .bytes)
   unfolding plain
   read-plain behind =
       let n = sure .many in
-      in-stack (λ k. plain k (c .bytes ++ behind) ≡ plain k (c .bytes)) (slices-front (sure .w) (sure .h) (sure .wide .0) (sure .d) (c .bytes) behind (omega arith))
+      in-stack (λ k. plain k (c .bytes ++ behind) ≡ plain k (c .bytes)) (slices-front (sure .w) (sure .h) (sure .sides .wide .some) (sure .d) (c .bytes) behind (omega arith))
 
   rows-clean : stackRows (c .stack) (c .bytes) ≡ c .bytes
   unfolding stackRows

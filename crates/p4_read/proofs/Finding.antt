@@ -6,29 +6,30 @@ use Prim.Native.Nat.{ℕ, _+_, _≤_, _<_}
 use lib.ListN.{length}
 use lib.Dec.{eqb, leb}
 use borrow.Author.Tests.{eq-eqb, ne-eqb, le-leb, lt-leb}
+use Rattle.integers.specs.Tests.{both, not-first, not-second}
 use Rattle.rules.specs.Solids.{sliceBytes}
 use Rattle.rules.specs.P4.{good, _>>=_, _>>_, judge, imageAt}
-use Rattle.p4_laws.specs.Judging.{on, off, pass, fail, both, not-first, not-second}
+use Rattle.p4_laws.specs.Judging.{on, off, pass, fail}
 use Rattle.p4_laws.specs.Headers.{header-in}
-use Rattle.p4_rows.specs.Copies.{SliceBytes}
+use Rattle.stack.specs.Bytes.{SliceBytes}
 use Rattle.p4_header.specs.declared.PlaceRead.the-variants.{At, NotAt}
 use Rattle.p4_header.specs.declared.HeaderRead.{HeaderRead}
 use Rattle.p4_header.specs.declared.HeaderRead.the-variants.{Sizes, NoSizes}
-use Rattle.p4_header.specs.Reads.{header, HeaderIs}
+use Rattle.p4_header.specs.Reads.{judgedHeader, HeaderIs}
 use Rattle.p4_read.specs.Images.{ImageIs}
 
 module _ (w h : ℕ) {s : List ℕ} {at : ℕ} {r : HeaderRead} (H : HeaderIs s at r) where
   pub rows-none : {n p : ℕ} → r ≡ NoSizes n p → ImageIs w h s at (NotAt n p)
   unfolding imageAt
-  rows-none e = record { is = sym (off _ (sym (H .is) ∙ ap header e)) }
+  rows-none e = record { is = sym (off _ (sym (H .is) ∙ ap judgedHeader e)) }
 
   module _ {a b i : ℕ} (e : r ≡ Sizes a b i) where
     pub rows-inside : i ≤ length s
-    rows-inside = header-in s at (sym (H .is) ∙ ap header e) .inside
+    rows-inside = header-in s at (sym (H .is) ∙ ap judgedHeader e) .inside
 
     sized : imageAt w h s at ≡ (judge (eqb a w && eqb b h) 24 at >>= λ _. judge (leb (i + sliceBytes w h) (length s)) 25 (length s) >>= λ _. good i)
     unfolding imageAt
-    sized = on _ (sym (H .is) ∙ ap header e)
+    sized = on _ (sym (H .is) ∙ ap judgedHeader e)
 
     pub rows-wide : (a ≡ w → ⊥) → ImageIs w h s at (NotAt 24 at)
     rows-wide n = record { is = sym (sized ∙ fail 24 at _ (not-first _ (ne-eqb a w n))) }

@@ -18,15 +18,16 @@ use Rattle.text.specs.Puts.{sets-append}
 use Rattle.p4_laws.specs.Stores.{sets-swap}
 use Rattle.p4_laws.specs.Headers.{header-in, image-in}
 use Rattle.p4_laws.specs.Images.{followed, images-end, images-full, images-more, rows-of, counted}
-use Rattle.p4_rows.specs.Copies.{SliceBytes, Room, Sides}
+use Rattle.stack.specs.Bytes.{SliceBytes}
+use Rattle.p4_rows.specs.Copies.{CopyRoom}
 use Rattle.p4_header.specs.declared.PlaceRead.{PlaceRead}
 use Rattle.p4_header.specs.declared.PlaceRead.the-variants.{At, NotAt}
 use Rattle.p4_header.specs.declared.HeaderRead.{HeaderRead}
 use Rattle.p4_header.specs.declared.HeaderRead.the-variants.{Sizes, NoSizes}
-use Rattle.p4_header.specs.Reads.{place, header, HeaderIs}
-use Rattle.p4_read.specs.Images.{ImageIs, Asked, Before, Part, refused, short, filled}
+use Rattle.p4_header.specs.Reads.{judgedPlace, judgedHeader, HeaderIs}
+use Rattle.p4_read.specs.Images.{ImageIs, ImageRange, Before, Part, refused, short, filled}
 
-module _ {s : List ℕ} {w h z at o : ℕ} (A : Asked s at w h) (B : Before o z w h) where
+module _ {s : List ℕ} {w h z at o : ℕ} (A : ImageRange s at w h) (B : Before o z w h) where
   -- ---- the input ends here
   module _ (e : at ≡ length s) where
     last : (z + 0) * sliceBytes w h ≡ o
@@ -44,7 +45,7 @@ module _ {s : List ℕ} {w h z at o : ℕ} (A : Asked s at w h) (B : Before o z 
 
     -- ---- an image is here
     module _ (m : z ≡ 256 → ⊥) {f : PlaceRead} (F : ImageIs w h s at f) where
-      next : imagesAt (256 - z) w h s at ≡ (place f >>= followed (256 - (z + 1)) w h s)
+      next : imagesAt (256 - z) w h s at ≡ (judgedPlace f >>= followed (256 - (z + 1)) w h s)
       next =
           let l = B .few in
           let k : 256 - z ≡ suc (256 - (z + 1)) = omega arith in
@@ -53,23 +54,23 @@ module _ {s : List ℕ} {w h z at o : ℕ} (A : Asked s at w h) (B : Before o z 
           ∙ ap (λ (x : Judged ℕ). x >>= followed (256 - (z + 1)) w h s) (sym (F .is))
 
       pub part-not : {x p : ℕ} (out : List ℕ) → f ≡ NotAt x p → Part s w h z at o out out (Unread x p)
-      part-not out e = refused (next ∙ off _ (ap place e)) refl refl
+      part-not out e = refused (next ∙ off _ (ap judgedPlace e)) refl refl
 
       module _ {i c : ℕ} (e : f ≡ At i) (C : SliceBytes w h c) where
         found : imageAt w h s at ≡ good i
-        found = sym (F .is) ∙ ap place e
+        found = sym (F .is) ∙ ap judgedPlace e
 
         pub rows-in : i + c ≤ length s
         rows-in = let x = image-in w h s at found in let y = C .is in omega arith
 
         more : imagesAt (256 - z) w h s at ≡ followed (256 - (z + 1)) w h s i
-        more = next ∙ on _ (ap place e)
+        more = next ∙ on _ (ap judgedPlace e)
 
         deeper : (d : ℕ) → (z + suc d) * sliceBytes w h ≡ (z + 1 + d) * sliceBytes w h
         deeper d = let x : z + suc d ≡ z + 1 + d = omega arith in ap (λ (y : ℕ). y * sliceBytes w h) x
 
-        pub next-asked : Asked s (i + c) w h
-        next-asked = record { inside = rows-in; wide = A .wide; high = A .high }
+        pub next-range : ImageRange s (i + c) w h
+        next-range = record { inside = rows-in; sides = A .sides }
 
         pub next-before : Before (o + c) (z + 1) w h
         next-before =
@@ -99,7 +100,7 @@ module _ {s : List ℕ} {w h z at o : ℕ} (A : Asked s at w h) (B : Before o z 
         storing {out = out} (filled {d} {bytes} a l b x) q g =
             let y = deeper d in
             let u : z + 1 + d ≡ z + suc d = omega arith in
-            let v = rows-of w h (A .wide .0) s at found in
+            let v = rows-of w h (A .sides .wide .some) s at found in
             filled (more ∙ on _ a) (omega arith) (sym q ∙ b ∙ ap (λ (D : ℕ). Read (sizes w h D)) u)
             (g
             ∙ ap (λ (t : List ℕ). sets t o (rows h w (drop i s))) x
@@ -122,7 +123,7 @@ module _ {s : List ℕ} {w h z at o : ℕ} (A : Asked s at w h) (B : Before o z 
 
         -- for these rows, or fewer
         pub copy-room : {k : Stack} {out mid : List ℕ} {r : Reading} (g : ℕ) → Part s w h (z + 1) (i + c) (o + c) out mid r → r ≡ Read k → length mid ≡ length out
-            → g ≤ h → Room s i mid o (sliceBytes w g)
+            → g ≤ h → CopyRoom s i mid o (sliceBytes w g)
         unfolding sliceBytes
         copy-room g P q l f =
             let x = roomy P q in
@@ -131,9 +132,6 @@ module _ {s : List ℕ} {w h z at o : ℕ} (A : Asked s at w h) (B : Before o z 
             let v = mul-le-mul-right (rowBytes w) f in
             record { source = omega arith; target = omega arith }
 
-pub sides : {s : List ℕ} {at w h : ℕ} → Asked s at w h → Sides w h
-sides A = record { some = A .wide .0; wide = A .wide .1; high = A .high }
-
 -- ---- the reader
 pub first-before : (w h : ℕ) → Before 0 0 w h
 first-before w h = record { few = omega arith; bytes = sym (zero-mul (sliceBytes w h)); small = omega arith }
@@ -141,16 +139,16 @@ first-before w h = record { few = omega arith; bytes = sym (zero-mul (sliceBytes
 pub read-refused : (s out : List ℕ) {r : HeaderRead} {n p : ℕ} → HeaderIs s 0 r → r ≡ NoSizes n p → ReadPromise s out out (Unread n p)
 unfolding reading contents readAnswer stored
 read-refused s out {n = n} {p = p} H e =
-    let q : reading s (length out) ≡ wrong n p = off _ (off _ (sym (H .is) ∙ ap header e)) in
+    let q : reading s (length out) ≡ wrong n p = off _ (off _ (sym (H .is) ∙ ap judgedHeader e)) in
     record { answers = sym (ap readAnswer q); leaves = sym (ap (λ (x : Judged Contents). stored (λ c. c .bytes) x out) q) }
 
 module _ {s : List ℕ} {r : HeaderRead} {w h i : ℕ} (H : HeaderIs s 0 r) (e : r ≡ Sizes w h i) where
-  pub first-asked : Asked s 0 w h
-  first-asked = let x = header-in s 0 (sym (H .is) ∙ ap header e) in record { inside = omega arith; wide = x .wide; high = x .high .1 }
+  pub first-range : ImageRange s 0 w h
+  first-range = let x = header-in s 0 (sym (H .is) ∙ ap judgedHeader e) in record { inside = omega arith; sides = record { wide = x .wide; high = x .high .most } }
 
   contents-is : contents s ≡ (imagesAt 256 w h s 0 >>= λ f. good (record { stack = sizes w h (f .0); bytes = f .1 }))
   unfolding contents
-  contents-is = on _ (sym (H .is) ∙ ap header e)
+  contents-is = on _ (sym (H .is) ∙ ap judgedHeader e)
 
   module _ {d : ℕ} {bytes : List ℕ} (a : imagesAt 256 w h s 0 ≡ good (d, bytes)) where
     judged : (out : List ℕ) → reading s (length out) ≡ (judge (leb (d * sliceBytes w h) (length out)) 27 (d * sliceBytes w h) >>= λ _. good (record { stack = sizes w h d; bytes = bytes }))
@@ -158,7 +156,7 @@ module _ {s : List ℕ} {r : HeaderRead} {w h i : ℕ} (H : HeaderIs s 0 r) (e :
     judged out = on _ (contents-is ∙ on _ a)
 
     bytes-many : length bytes ≡ d * sliceBytes w h
-    bytes-many = counted w h (header-in s 0 (sym (H .is) ∙ ap header e) .wide .0) s 256 0 a .bytes
+    bytes-many = counted w h (header-in s 0 (sym (H .is) ∙ ap judgedHeader e) .wide .some) s 256 0 a .bytes
 
   pub read-all : {t : Reading} {out after : List ℕ} → Part s w h 0 0 0 out after t → ReadPromise s out after t
   unfolding reading readAnswer stored

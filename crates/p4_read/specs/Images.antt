@@ -8,21 +8,16 @@ use Rattle.rules.specs.declared.Reading.{Reading}
 use Rattle.rules.specs.declared.Reading.the-variants.{Read, Unread}
 use Rattle.rules.specs.Solids.{sliceBytes}
 use Rattle.rules.specs.P4.{good, wrong, sizes, imageAt, imagesAt}
+use Rattle.stack.specs.Bytes.{SliceSides}
 use Rattle.p4_header.specs.declared.PlaceRead.{PlaceRead}
-use Rattle.p4_header.specs.Reads.{place}
-
-pub record Small (width height depth : ℕ) : Type 0 where
-  pub wide : width ≤ 256
-  pub high : height ≤ 256
-  pub deep : depth ≤ 256
+use Rattle.p4_header.specs.Reads.{judgedPlace}
 
 pub record ImageIs (width height : ℕ) (s : List ℕ) (at : ℕ) (r : PlaceRead) : Type 0 where
-  pub is : place r ≡ imageAt width height s at
+  pub is : judgedPlace r ≡ imageAt width height s at
 
-pub record Asked (s : List ℕ) (at width height : ℕ) : Type 0 where
+pub record ImageRange (s : List ℕ) (at width height : ℕ) : Type 0 where
   pub inside : at ≤ length s
-  pub wide : (1 ≤ width) × (width ≤ 256)
-  pub high : height ≤ 256
+  pub sides : SliceSides width height
 
 -- z images before, whose rows take o bytes
 pub record Before (o z width height : ℕ) : Type 0 where

@@ -4,11 +4,13 @@ use p4_header::PlaceRead;
 use rules::Reading;
 use rules::Stack;
 ghost use mathlib.Core.Path.{_≡_};
+ghost use Prim.Native.Nat.{_≤_};
 ghost use Rattle.rules.specs.P4.{sizes, ReadPromise};
-ghost use Rattle.p4_read.specs.Images.{ImageIs, Asked, Before, Small, Part};
+ghost use Rattle.stack.specs.Bytes.{SliceSides};
+ghost use Rattle.p4_read.specs.Images.{ImageIs, ImageRange, Before, Part};
 
 fn stack_of(width: usize, height: usize, depth: usize) -> Stack
-    requires { ⌜ Small width height depth ⌝ }
+    requires { ⌜ (SliceSides width height) × (depth ≤ 256) ⌝ }
     ensures { λ r. ⌜ r ≡ sizes width height depth ⌝ }
 {
     Stack {
@@ -20,7 +22,7 @@ fn stack_of(width: usize, height: usize, depth: usize) -> Stack
 
 // The place of the rows of the image at a place, if it has this size.
 fn find_rows(src: &[u8], at: usize, width: usize, height: usize) -> PlaceRead
-    requires { ⌜ Asked (now src) at width height ⌝ }
+    requires { ⌜ ImageRange (now src) at width height ⌝ }
     ensures { λ r. ⌜ ImageIs width height (now (src .entry)) at r ⌝ }
 {
     let header = p4_header::read_header(src, at);
@@ -33,7 +35,7 @@ fn find_rows(src: &[u8], at: usize, width: usize, height: usize) -> PlaceRead
             if h != height {
                 return PlaceRead::NotAt(24, at);
             }
-            let size = p4_rows::slice_bytes(width, height);
+            let size = stack::slice_bytes(width, height);
             if src.len() < i + size {
                 return PlaceRead::NotAt(25, src.len());
             }
@@ -53,7 +55,7 @@ fn read_images(
     width: usize,
     height: usize,
 ) -> Reading
-    requires { ⌜ (Asked (now src) at width height) × (Before o z width height) ⌝ }
+    requires { ⌜ (ImageRange (now src) at width height) × (Before o z width height) ⌝ }
     ensures { λ r. ⌜ Part (now (src .entry)) width height z at o (now (out .entry)) (now (out .exit)) r ⌝ }
 {
     if at == src.len() {
@@ -69,7 +71,7 @@ fn read_images(
     match found {
         PlaceRead::NotAt(n, p) => Reading::Unread(n, p),
         PlaceRead::At(i) => {
-            let size = p4_rows::slice_bytes(width, height);
+            let size = stack::slice_bytes(width, height);
             let rest = read_images(src, i + size, out, o + size, z + 1, width, height);
             match rest {
                 Reading::Unread(n, p) => Reading::Unread(n, p),

@@ -2,20 +2,17 @@
 use mathlib.Core.Path.{_≡_, refl, sym, ap, _∙_}
 use mathlib.Core.List.{List, [], _∷_, _++_}
 use Prim.Native.Nat.{ℕ, zero, suc, _+_, _-_, _*_, _/_, _%_, _^_, _≤_, _<_}
-use native.Mathlib.Nat.{suc-mul, zero-mul, mul-le-mul, div-mul-le-self, mod-eq-of-lt}
+use native.Mathlib.Nat.{suc-mul, zero-mul, div-mul-le-self, mod-eq-of-lt}
 use native.Mathlib.Omega.{arith}
 use lib.ListN.{length, getD, take, drop, set, length-set, length-drop}
 use lib.Seq.{sets, length-sets, set-getD, set-set, getD-set-same, take-add, length-take-le, take-suc}
 use Rattle.rules.specs.Solids.{rowBytes, sliceBytes}
 use Rattle.rules.specs.P4.{padding, cut, row, rows}
+use Rattle.stack.specs.Bytes.{SliceSides, RowBytes, SliceBytes}
 use Rattle.text.specs.Puts.{sets-append}
 use Rattle.p4_laws.specs.Stores.{set-sets}
 use Rattle.p4_laws.specs.Rows.{row-some, length-row}
-use Rattle.p4_rows.specs.Copies.{RowBytes, Padding, Sides, SliceBytes, Room, RowRoom, cleared}
-
-pub row-bytes : {w : ℕ} → 1 ≤ w → w ≤ 256 → RowBytes w ((w + 7) / 8)
-unfolding rowBytes
-row-bytes a b = record { is = refl; some = omega arith; small = omega arith }
+use Rattle.p4_rows.specs.Copies.{Padding, CopyRoom, RowRoom, cleared}
 
 pub padding-bits : (w : ℕ) → Padding w ((8 - w % 8) % 8)
 unfolding padding rowBytes
@@ -27,13 +24,6 @@ padding-none w e = omega arith
 
 pub shifts : (b k : ℕ) → b < 256 → b / 2 ^ k * 2 ^ k % 256 ≡ b / 2 ^ k * 2 ^ k
 shifts b k h = let d = div-mul-le-self b (2 ^ k) in mod-eq-of-lt (omega arith)
-
-pub slice-small : {w h b : ℕ} → Sides w h → RowBytes w b → h * b ≤ 8192
-slice-small S R = mul-le-mul (S .high) (R .small)
-
-pub slice-bytes : {w h b : ℕ} → Sides w h → RowBytes w b → SliceBytes w h (h * b)
-unfolding sliceBytes
-slice-bytes {w} {h} {b} S R = record { is = ap (λ (x : ℕ). h * x) (R .is); small = slice-small S R }
 
 -- ---- the loop
 
@@ -151,14 +141,14 @@ module _ (w : ℕ) (some : 1 ≤ w) where
       ∙ sym (sets-append out at (row w bs) (rows r w (drop n bs)))
 
 -- ---- both ways out of the copy of an image's rows
-module _ {src out mid : List ℕ} {from to w h size : ℕ} (S : Sides w h) (R : Room src from out to (sliceBytes w h)) (Z : SliceBytes w h size)
+module _ {src out mid : List ℕ} {from to w h size : ℕ} (S : SliceSides w h) (R : CopyRoom src from out to (sliceBytes w h)) (Z : SliceBytes w h size)
     (M : mid ≡ sets out to (take size (drop from src))) where
   copied : cleared h w mid to ≡ sets out to (rows h w (drop from src))
   unfolding sliceBytes
   copied =
       let s = R .source in
       ap (λ (l : List ℕ). cleared h w l to) (M ∙ ap (λ (k : ℕ). sets out to (take k (drop from src))) (Z .is))
-      ∙ cleared-rows w (S .some) h out (drop from src) to (simp length-drop (omega arith)) (R .target)
+      ∙ cleared-rows w (S .wide .some) h out (drop from src) to (simp length-drop (omega arith)) (R .target)
 
   pub rows-whole : w % 8 ≡ 0 → mid ≡ sets out to (rows h w (drop from src))
   rows-whole e = sym (cleared-none h w mid to (padding-none w e)) ∙ copied
@@ -166,9 +156,6 @@ module _ {src out mid : List ℕ} {from to w h size : ℕ} (S : Sides w h) (R : 
   pub rows-cleared : {after : List ℕ} → after ≡ cleared h w mid to → after ≡ sets out to (rows h w (drop from src))
   rows-cleared e = e ∙ copied
 
-  pub copy-room : Room src from out to size
-  copy-room = record { source = let e = Z .is in let s = R .source in omega arith; target = let e = Z .is in let s = R .target in omega arith }
-
   pub clear-room : length mid ≡ length out → RowRoom mid to w h
   unfolding sliceBytes
-  clear-room l = record { some = S .some; wide = S .wide; target = let s = R .target in omega arith }
+  clear-room l = record { wide = S .wide; target = let s = R .target in omega arith }

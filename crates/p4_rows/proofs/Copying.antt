@@ -6,8 +6,8 @@ use native.Mathlib.Nat.{add-zero, sub-zero}
 use native.Mathlib.Omega.{arith}
 use lib.ListN.{length, getD, take, drop, set, length-set}
 use lib.Seq.{sets}
-use Rattle.p4_laws.specs.Stores.{drop-here}
-use Rattle.p4_rows.specs.Copies.{Room}
+use Rattle.text.specs.Places.{drop-here}
+use Rattle.p4_rows.specs.Copies.{CopyRoom}
 
 pub record Copying (src : List ℕ) (from : ℕ) (first : List ℕ) (to count : ℕ) (out : List ℕ) (i : ℕ) : Type 0 where
   pub same : length out ≡ length first
@@ -22,7 +22,7 @@ copying-start src from out to count = record {
 }
 
 module _ {src first out : List ℕ} {from to count i : ℕ} (C : Copying src from first to count out i) where
-  pub copying-next : Room src from first to count → i < count → Copying src from first to count (set out (to + i) (getD src (from + i) 0)) (i + 1)
+  pub copying-next : CopyRoom src from first to count → i < count → Copying src from first to count (set out (to + i) (getD src (from + i) 0)) (i + 1)
   copying-next R h =
       let s = R .source in
       let a : count - i ≡ suc (count - (i + 1)) = omega arith in

@@ -3,35 +3,21 @@ use mathlib.Core.Path.{_≡_}
 use mathlib.Core.List.{List}
 use Prim.Native.Nat.{ℕ, zero, suc, _+_, _-_, _*_, _≤_, _<_}
 use lib.ListN.{length, getD, set}
-use Rattle.rules.specs.Solids.{rowBytes, sliceBytes}
+use Rattle.rules.specs.Solids.{rowBytes}
 use Rattle.rules.specs.P4.{padding, cut}
-
-pub record RowBytes (width r : ℕ) : Type 0 where
-  pub is : r ≡ rowBytes width
-  pub some : 1 ≤ r
-  pub small : r ≤ 32
+use Rattle.stack.specs.Sides.{Side}
 
 pub record Padding (width r : ℕ) : Type 0 where
   pub is : r ≡ padding width
   pub small : r < 8
 
-pub record Sides (width height : ℕ) : Type 0 where
-  pub some : 1 ≤ width
-  pub wide : width ≤ 256
-  pub high : height ≤ 256
-
-pub record SliceBytes (width height r : ℕ) : Type 0 where
-  pub is : r ≡ sliceBytes width height
-  pub small : r ≤ 8192
-
 -- there are so many bytes at both places
-pub record Room (src : List ℕ) (from : ℕ) (out : List ℕ) (to count : ℕ) : Type 0 where
+pub record CopyRoom (src : List ℕ) (from : ℕ) (out : List ℕ) (to count : ℕ) : Type 0 where
   pub source : from + count ≤ length src
   pub target : to + count ≤ length out
 
 pub record RowRoom (out : List ℕ) (at width count : ℕ) : Type 0 where
-  pub some : 1 ≤ width
-  pub wide : width ≤ 256
+  pub wide : Side width
   pub target : at + count * rowBytes width ≤ length out
 
 -- so many rows at a place, each with its last byte cut

@@ -1,25 +1,12 @@
-// The rows of one image: how many bytes they take, and a copy of them with padding bits zero.
+// A copy of the rows of one image, with padding bits zero.
 ghost use mathlib.Core.Path.{_≡_};
-ghost use Prim.Native.Nat.{_/_, _*_, _^_, _≤_, _<_};
+ghost use Prim.Native.Nat.{_/_, _*_, _^_, _<_};
 ghost use lib.ListN.{take, drop};
 ghost use lib.Seq.{sets};
 ghost use Rattle.rules.specs.Solids.{sliceBytes};
 ghost use Rattle.rules.specs.P4.{rows};
-ghost use Rattle.p4_rows.specs.Copies.{RowBytes, Padding, Sides, SliceBytes, Room, RowRoom, cleared};
-
-fn row_bytes(width: usize) -> usize
-    requires { ⌜ (1 ≤ width) × (width ≤ 256) ⌝ }
-    ensures { λ r. ⌜ RowBytes width r ⌝ }
-{
-    (width + 7) / 8
-}
-
-pub fn slice_bytes(width: usize, height: usize) -> usize
-    requires { ⌜ Sides width height ⌝ }
-    ensures { λ r. ⌜ SliceBytes width height r ⌝ }
-{
-    height * row_bytes(width)
-}
+ghost use Rattle.stack.specs.Bytes.{SliceSides};
+ghost use Rattle.p4_rows.specs.Copies.{Padding, CopyRoom, RowRoom, cleared};
 
 // The bits that pad a row.
 fn padding_bits(width: usize) -> usize
@@ -38,7 +25,7 @@ fn cut_byte(b: u8, bits: usize) -> u8
 
 // A plain copy, which the compiler makes moves of sixteen bytes.
 fn copy_bytes(src: &[u8], from: usize, out: &mut [u8], to: usize, count: usize)
-    requires { ⌜ Room (now src) from (now out) to count ⌝ }
+    requires { ⌜ CopyRoom (now src) from (now out) to count ⌝ }
     ensures { λ _. ⌜ now (out .exit) ≡ sets (now (out .entry)) to (take count (drop from (now (src .entry)))) ⌝ }
 {
     let mut i = 0;
@@ -53,7 +40,7 @@ fn clear_padding(out: &mut [u8], at: usize, width: usize, count: usize)
     requires { ⌜ RowRoom (now out) at width count ⌝ }
     ensures { λ _. ⌜ now (out .exit) ≡ cleared count width (now (out .entry)) at ⌝ }
 {
-    let bytes = row_bytes(width);
+    let bytes = stack::row_bytes(width);
     let bits = padding_bits(width);
     let mut o = at;
     let mut left = count;
@@ -67,10 +54,10 @@ fn clear_padding(out: &mut [u8], at: usize, width: usize, count: usize)
 
 // The rows at `from`, with padding bits zero, to `to`.
 pub fn copy_rows(src: &[u8], from: usize, out: &mut [u8], to: usize, width: usize, height: usize)
-    requires { ⌜ (Sides width height) × (Room (now src) from (now out) to (sliceBytes width height)) ⌝ }
+    requires { ⌜ (SliceSides width height) × (CopyRoom (now src) from (now out) to (sliceBytes width height)) ⌝ }
     ensures { λ _. ⌜ now (out .exit) ≡ sets (now (out .entry)) to (rows height width (drop from (now (src .entry)))) ⌝ }
 {
-    let size = slice_bytes(width, height);
+    let size = stack::slice_bytes(width, height);
     copy_bytes(src, from, out, to, size);
     if width % 8 == 0 {
         return;

@@ -1,3 +1,3 @@
-pub mod Sides
+pub mod Digits
 pub mod Headers
 pub mod Writing

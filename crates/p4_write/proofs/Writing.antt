@@ -1,29 +1,30 @@
 -- The loop over slices, in which what is left to write, laid over what is written, gives the whole; and each way out of the writer.
 use mathlib.Core.Path.{_≡_, refl, sym, ap, subst, _∙_}
-use mathlib.Core.Bool.{Bool, true, false, _&&_}
+use mathlib.Core.Bool.{Bool, false}
 use mathlib.Core.List.{List, _++_, append-assoc}
 use Prim.Native.Nat.{ℕ, suc, _+_, _-_, _*_, _≤_, _<_}
 use native.Mathlib.Nat.{zero-add, suc-mul, mul-le-mul, mul-le-mul-right}
 use native.Mathlib.Omega.{arith}
 use lib.Dec.{leb}
-use lib.IntN.{ℤ, pos}
 use lib.ListN.{length, drop, length-append, length-drop}
 use lib.Seq.{sets, sets-eq, drop-drop}
 use borrow.Author.Tests.{le-leb, lt-leb}
 use Rattle.rules.specs.declared.Stack.{Stack}
 use Rattle.rules.specs.declared.Writing.{Writing}
 use Rattle.rules.specs.declared.Writing.the-variants.{Written, Unwritten}
-use Rattle.rules.specs.Solids.{between, permittedSize, rowBytes, sliceBytes, stackBytes, permittedStack}
+use Rattle.rules.specs.Solids.{rowBytes, sliceBytes, stackBytes, permittedStack}
 use Rattle.rules.specs.P4.{Judged, good, wrong, _>>=_, judge, rows, plainHeader, slices, plain, sizes, writing, writeAnswer, stored, WritePromise}
+use Rattle.stack.specs.Sides.{Sized, stack-is, permits, cast, side-kept, side-cast}
+use Rattle.stack.specs.Bytes.{SliceSides, SliceBytes}
 use Rattle.text.specs.Put.{Put}
 use Rattle.text.specs.Puts.{sets-append, put-then}
-use Rattle.p4_laws.specs.Judging.{pass, fail, both, not-first, not-second}
+use Rattle.p4_laws.specs.Judging.{pass, fail}
 use Rattle.p4_laws.specs.Plain.{header-length, slices-none, slices-more, slices-length, slice-rows}
-use Rattle.p4_rows.specs.Copies.{Sides, SliceBytes, Room as CopyRoom}
-use Rattle.p4_write.specs.Slices.{Side, Figures, HeaderRoom, Three, SlicesRoom}
+use Rattle.p4_rows.specs.Copies.{CopyRoom}
+use Rattle.p4_write.specs.Slices.{Figures, HeaderRoom, SlicesAsk, SlicesRoom}
 
-pub sides : {w h d : ℕ} → Three w h d → Sides w h
-sides T = record { some = T .wide .0; wide = T .wide .1; high = T .high .1 }
+pub slice-sides : {w h d : ℕ} {bytes : List ℕ} → SlicesAsk w h d bytes → SliceSides w h
+slice-sides A = record { wide = A .sides .wide; high = A .sides .high .most }
 
 -- ---- the loop
 pub record Going (src first : List ℕ) (w h d : ℕ) (out : List ℕ) (at from left : ℕ) : Type 0 where
@@ -33,7 +34,7 @@ pub record Going (src first : List ℕ) (w h d : ℕ) (out : List ℕ) (at from 
   pub rest : sets out at (slices left w h (drop from src)) ≡ sets first 0 (slices d w h src)
 
 pub going-start : {src out : List ℕ} {w h d : ℕ} → SlicesRoom w h d src out → Going src out w h d out 0 0 d
-going-start S = record { same = refl; source = let x = S .source in omega arith; room = zero-add _; rest = refl }
+going-start S = record { same = refl; source = let x = S .ask .source in omega arith; room = zero-add _; rest = refl }
 
 pub going-end : {src first out : List ℕ} {w h d at from left : ℕ} → Going src first w h d out at from left → left ≤ 0 → Put first 0 (slices d w h src) out at
 going-end {src} {out = out} {w} {h} {at = at} {from = from} G e =
@@ -61,7 +62,7 @@ module _ {src first out : List ℕ} {w h d at from left : ℕ} (S : SlicesRoom w
   rows-there = let s = G .source in let m = less in omega arith
 
   rows-many : length (rows h w (drop from src)) ≡ sliceBytes w h
-  rows-many = let i = rows-there in slice-rows w h (S .three .wide .0) (drop from src) (simp length-drop (omega arith))
+  rows-many = let i = rows-there in slice-rows w h (S .ask .sides .wide .some) (drop from src) (simp length-drop (omega arith))
 
   fills : at + (length (plainHeader w h) + (sliceBytes w h + length behind)) ≡ length (slices d w h src)
   fills =
@@ -71,7 +72,7 @@ module _ {src first out : List ℕ} {w h d at from left : ℕ} (S : SlicesRoom w
       omega arith
 
   pub header-room : HeaderRoom out at w h
-  header-room = let f = fills in let m = G .same in let t = S .target in record { wide = S .three .wide .1; high = S .three .high .1; room = record { fits = omega arith } }
+  header-room = let f = fills in let m = G .same in let t = S .target in record { sides = slice-sides (S .ask); room = record { fits = omega arith } }
 
   module _ {mid : List ℕ} {o : ℕ} (P : Put out at (plainHeader w h) mid o) where
     -- for these rows, or fewer
@@ -120,101 +121,67 @@ module _ {src first out : List ℕ} {w h d at from left : ℕ} (S : SlicesRoom w
           })
 
 -- ---- each way out of the writer
-refuse : (k : Stack) (bytes out : List ℕ) → permittedStack k bytes ≡ false → WritePromise k bytes out out (Unwritten 3 0)
+pub write-refused : (k : Stack) (bytes out : List ℕ) {t : Bool} → t ≡ permittedStack k bytes → t ≡ false → WritePromise k bytes out out (Unwritten 3 0)
 unfolding writing writeAnswer stored
-refuse k bytes out e =
-    let q : writing k bytes (length out) ≡ wrong 3 0 = fail 3 0 _ e in
+write-refused k bytes out e f =
+    let q : writing k bytes (length out) ≡ wrong 3 0 = fail 3 0 _ (sym e ∙ f) in
     record { answers = sym (ap writeAnswer q); leaves = sym (ap (λ (x : Judged (List ℕ)). stored (λ l. l) x out) q) }
 
-module _ {w h d size : ℕ} (T : Three w h d) (Z : SliceBytes w h size) where
-  pub stack-small : d * size ≤ 2097152
-  stack-small = mul-le-mul (T .deep .1) (Z .small)
+module _ {bytes : List ℕ} {w h d size a b : ℕ} (S : SlicesAsk w h d bytes) (Z : SliceBytes w h size) (A : Figures w a) (B : Figures h b) where
+  pub need-small : d * (5 + (a + b) + size) ≤ 2099968
+  need-small = let x = A .few in let y = B .few in let z = Z .small in let k : 5 + (a + b) + size ≤ 8203 = omega arith in mul-le-mul (S .sides .deep .most) k
 
-  pub need-small : {a b : ℕ} → Figures w a → Figures h b → d * (5 + (a + b) + size) ≤ 2099968
-  need-small {a} {b} A B = let x = A .few in let y = B .few in let z = Z .small in let k : 5 + (a + b) + size ≤ 8203 = omega arith in mul-le-mul (T .deep .1) k
+  needed : d * (5 + (a + b) + size) ≡ length (slices d w h bytes)
+  needed =
+      let x = A .is in
+      let y = B .is in
+      let z = Z .is in
+      let k : 5 + (a + b) + size ≡ length (plainHeader w h) + sliceBytes w h = omega (arith, header-length w h) in
+      ap (λ (v : ℕ). d * v) k ∙ sym (slices-length w h (S .sides .wide .some) d bytes (S .source))
 
-module _ (bytes : List ℕ) {w h d size : ℕ} (T : Three w h d) (Z : SliceBytes w h size) where
-  in-range : permittedStack (sizes w h d) bytes ≡ leb (d * sliceBytes w h) (length bytes)
-  unfolding permittedStack between stackBytes
-  in-range =
-      let one : (n : ℕ) → (1 ≤ n) × (n ≤ 256) → permittedSize (pos n) ≡ true = λ n r. both (le-leb 1 n (r .0)) (le-leb n 256 (r .1)) in
-      let t = leb (d * sliceBytes w h) (length bytes) in
-      ap (λ (x : Bool). x && (permittedSize (pos h) && (permittedSize (pos d) && t))) (one w (T .wide))
-      ∙ ap (λ (x : Bool). x && (permittedSize (pos d) && t)) (one h (T .high))
-      ∙ ap (λ (x : Bool). x && t) (one d (T .deep))
+  judged : (n : ℕ) → writing (sizes w h d) bytes n ≡ (judge (leb (length (slices d w h bytes)) n) 27 (length (slices d w h bytes)) >>= λ _. good (slices d w h bytes))
+  unfolding writing plain
+  judged n = pass 3 0 _ (permits bytes (S .sides) (S .source))
 
-  pub stack-few : (out : List ℕ) → length bytes < d * size → WritePromise (sizes w h d) bytes out out (Unwritten 3 0)
-  stack-few out l =
-      let y = ap (λ (x : ℕ). d * x) (Z .is) in
-      refuse (sizes w h d) bytes out (in-range ∙ lt-leb (d * sliceBytes w h) (length bytes) (omega arith))
+  pub stack-short : {out : List ℕ} → length out < d * (5 + (a + b) + size) → WritePromise (sizes w h d) bytes out out (Unwritten 27 (d * (5 + (a + b) + size)))
+  unfolding writeAnswer stored
+  stack-short {out} s =
+      let n = needed in
+      let q : writing (sizes w h d) bytes (length out) ≡ wrong 27 (length (slices d w h bytes)) = judged (length out) ∙ fail 27 _ _ (lt-leb (length (slices d w h bytes)) (length out) (omega arith)) in
+      record { answers = ap (Unwritten 27) n ∙ sym (ap writeAnswer q); leaves = sym (ap (λ (x : Judged (List ℕ)). stored (λ l. l) x out) q) }
 
-  module _ (l : d * size ≤ length bytes) where
-    enough : d * sliceBytes w h ≤ length bytes
-    enough = subst (λ (x : ℕ). d * x ≤ length bytes) (Z .is) l
+  module _ {out : List ℕ} (s : d * (5 + (a + b) + size) ≤ length out) where
+    pub slices-room : SlicesRoom w h d bytes out
+    slices-room = let n = needed in record { ask = S; target = omega arith }
 
-    judged : (n : ℕ) → writing (sizes w h d) bytes n ≡ (judge (leb (length (slices d w h bytes)) n) 27 (length (slices d w h bytes)) >>= λ _. good (slices d w h bytes))
-    unfolding writing plain
-    judged n = pass 3 0 _ (in-range ∙ le-leb (d * sliceBytes w h) (length bytes) enough)
+    pub stack-written : {after : List ℕ} {n : ℕ} → Put out 0 (slices d w h bytes) after n → WritePromise (sizes w h d) bytes out after (Written n)
+    unfolding writeAnswer stored
+    stack-written P =
+        let L = slices d w h bytes in
+        let t = slices-room .target in
+        let q : writing (sizes w h d) bytes (length out) ≡ good L = judged (length out) ∙ pass 27 _ _ (le-leb (length L) (length out) t) in
+        record {
+          answers = ap Written (P .past ∙ zero-add (length L)) ∙ sym (ap writeAnswer q);
+          leaves =
+              P .is
+              ∙ sets-eq L out 0 (omega arith)
+              ∙ ap (λ (x : ℕ). L ++ drop x out) (zero-add (length L))
+              ∙ sym (ap (λ (x : Judged (List ℕ)). stored (λ l. l) x out) q);
+        }
 
-    module _ {a b : ℕ} (A : Figures w a) (B : Figures h b) where
-      needed : d * (5 + (a + b) + size) ≡ length (slices d w h bytes)
-      needed =
-          let x = A .is in
-          let y = B .is in
-          let z = Z .is in
-          let k : 5 + (a + b) + size ≡ length (plainHeader w h) + sliceBytes w h = omega (arith, header-length w h) in
-          ap (λ (v : ℕ). d * v) k ∙ sym (slices-length w h (T .wide .0) d bytes enough)
+-- ---- a permitted stack, its sides cast
+module _ {k : Stack} {bytes : List ℕ} (S : Sized k bytes) where
+  same : sizes (cast (k .width)) (cast (k .height)) (cast (k .depth)) ≡ k
+  same = let s = S .of in (λ i. sizes (side-kept (s .wide) i) (side-kept (s .high) i) (side-kept (s .deep) i)) ∙ sym (stack-is s)
 
-      pub stack-short : {out : List ℕ} → length out < d * (5 + (a + b) + size) → WritePromise (sizes w h d) bytes out out (Unwritten 27 (d * (5 + (a + b) + size)))
-      unfolding writeAnswer stored
-      stack-short {out} s =
-          let n = needed in
-          let q : writing (sizes w h d) bytes (length out) ≡ wrong 27 (length (slices d w h bytes)) = judged (length out) ∙ fail 27 _ _ (lt-leb (length (slices d w h bytes)) (length out) (omega arith)) in
-          record { answers = ap (Unwritten 27) n ∙ sym (ap writeAnswer q); leaves = sym (ap (λ (x : Judged (List ℕ)). stored (λ l. l) x out) q) }
+  pub slices-ask : SlicesAsk (cast (k .width)) (cast (k .height)) (cast (k .depth)) bytes
+  unfolding stackBytes
+  slices-ask =
+      let s = S .of in
+      record {
+        sides = record { wide = side-cast (s .wide); high = side-cast (s .high); deep = side-cast (s .deep) };
+        source = subst (λ (x : Stack). stackBytes x ≤ length bytes) (sym same) (S .enough);
+      }
 
-      module _ {out : List ℕ} (s : d * (5 + (a + b) + size) ≤ length out) where
-        pub slices-room : SlicesRoom w h d bytes out
-        slices-room = let n = needed in record { three = T; source = enough; target = omega arith }
-
-        pub stack-written : {after : List ℕ} {n : ℕ} → Put out 0 (slices d w h bytes) after n → WritePromise (sizes w h d) bytes out after (Written n)
-        unfolding writeAnswer stored
-        stack-written P =
-            let L = slices d w h bytes in
-            let t = slices-room .target in
-            let q : writing (sizes w h d) bytes (length out) ≡ good L = judged (length out) ∙ pass 27 _ _ (le-leb (length L) (length out) t) in
-            record {
-              answers = ap Written (P .past ∙ zero-add (length L)) ∙ sym (ap writeAnswer q);
-              leaves =
-                  P .is
-                  ∙ sets-eq L out 0 (omega arith)
-                  ∙ ap (λ (x : ℕ). L ++ drop x out) (zero-add (length L))
-                  ∙ sym (ap (λ (x : Judged (List ℕ)). stored (λ l. l) x out) q);
-            }
-
--- ---- from three numbers of any value
-pub three : {x y z : ℤ} {w h d : ℕ} → Side x w → Side y h → Side z d → (w ≡ 0 → ⊥) → (h ≡ 0 → ⊥) → (d ≡ 0 → ⊥) → Three w h d
-three A B C p q r = let a = A .small in let b = B .small in let c = C .small in record { wide = omega arith; high = omega arith; deep = omega arith }
-
-module _ {k : Stack} (bytes : List ℕ) {w h d : ℕ} (A : Side (k .width) w) (B : Side (k .height) h) (C : Side (k .depth) d) where
-  zeroed : {n : ℕ} → n ≡ 0 → leb 1 n ≡ false
-  zeroed {n} e = lt-leb 1 n (omega arith)
-
-  pub no-width : (out : List ℕ) → w ≡ 0 → WritePromise k bytes out out (Unwritten 3 0)
-  unfolding permittedStack
-  no-width out e = refuse k bytes out (not-first _ (A .judged ∙ zeroed e))
-
-  pub no-height : (out : List ℕ) → h ≡ 0 → WritePromise k bytes out out (Unwritten 3 0)
-  unfolding permittedStack
-  no-height out e = refuse k bytes out (not-second (permittedSize (k .width)) (not-first _ (B .judged ∙ zeroed e)))
-
-  pub no-depth : (out : List ℕ) → d ≡ 0 → WritePromise k bytes out out (Unwritten 3 0)
-  unfolding permittedStack
-  no-depth out e = refuse k bytes out (not-second (permittedSize (k .width)) (not-second (permittedSize (k .height)) (not-first _ (C .judged ∙ zeroed e))))
-
-  pub write-sized : (w ≡ 0 → ⊥) → (h ≡ 0 → ⊥) → (d ≡ 0 → ⊥) → {out after : List ℕ} {x : Writing} → WritePromise (sizes w h d) bytes out after x → WritePromise k bytes out after x
-  write-sized p q r {out} {after} {x} W =
-      let a = A .is (omega arith) in
-      let b = B .is (omega arith) in
-      let c = C .is (omega arith) in
-      let e : sizes w h d ≡ k = sym (λ i. record { width = a i; height = b i; depth = c i }) in
-      subst (λ (y : Stack). WritePromise y bytes out after x) e W
+  pub write-cast : {out after : List ℕ} {x : Writing} → WritePromise (sizes (cast (k .width)) (cast (k .height)) (cast (k .depth))) bytes out after x → WritePromise k bytes out after x
+  write-cast {out} {after} {x} W = subst (λ (y : Stack). WritePromise y bytes out after x) same W

@@ -1,27 +1,14 @@
 // The writer of P4 stacks: the plain form.
 use rules::Stack;
 use rules::Writing;
-ghost use Prim.Native.Nat.{_≤_};
 ghost use Rattle.rules.specs.P4.{sizes, plainHeader, slices, WritePromise};
+ghost use Rattle.stack.specs.Sides.{Side};
 ghost use Rattle.text.specs.Put.{Put};
-ghost use Rattle.p4_write.specs.Slices.{Side, Figures, HeaderRoom, Three, SlicesRoom};
-
-// A side of a stack, or 0 for a number that is none.
-fn side_of(n: i32) -> usize
-    ensures { λ r. ⌜ Side n r ⌝ }
-{
-    if n < 1 {
-        return 0;
-    }
-    if 256 < n {
-        return 0;
-    }
-    n as usize
-}
+ghost use Rattle.p4_write.specs.Slices.{Figures, HeaderRoom, SlicesAsk, SlicesRoom};
 
 // How many digits a side has.
 fn figures(n: usize) -> usize
-    requires { ⌜ n ≤ 256 ⌝ }
+    requires { ⌜ Side n ⌝ }
     ensures { λ r. ⌜ Figures n r ⌝ }
 {
     if n < 10 {
@@ -51,7 +38,7 @@ fn write_slices(width: usize, height: usize, depth: usize, bytes: &[u8], out: &m
     requires { ⌜ SlicesRoom width height depth (now bytes) (now out) ⌝ }
     ensures { λ r. ⌜ Put (now (out .entry)) 0 (slices depth width height (now (bytes .entry))) (now (out .exit)) r ⌝ }
 {
-    let size = p4_rows::slice_bytes(width, height);
+    let size = stack::slice_bytes(width, height);
     let mut at = 0;
     let mut from = 0;
     let mut left = depth;
@@ -66,13 +53,10 @@ fn write_slices(width: usize, height: usize, depth: usize, bytes: &[u8], out: &m
 }
 
 fn write_stack(width: usize, height: usize, depth: usize, bytes: &[u8], out: &mut [u8]) -> Writing
-    requires { ⌜ Three width height depth ⌝ }
+    requires { ⌜ SlicesAsk width height depth (now bytes) ⌝ }
     ensures { λ r. ⌜ WritePromise (sizes width height depth) (now (bytes .entry)) (now (out .entry)) (now (out .exit)) r ⌝ }
 {
-    let size = p4_rows::slice_bytes(width, height);
-    if bytes.len() < depth * size {
-        return Writing::Unwritten(3, 0);
-    }
+    let size = stack::slice_bytes(width, height);
     let a = figures(width);
     let b = figures(height);
     let need = depth * (5 + (a + b) + size);
@@ -86,20 +70,11 @@ fn write_stack(width: usize, height: usize, depth: usize, bytes: &[u8], out: &mu
 pub fn write(stack: Stack, bytes: &[u8], out: &mut [u8]) -> Writing
     ensures { λ r. ⌜ WritePromise stack (now (bytes .entry)) (now (out .entry)) (now (out .exit)) r ⌝ }
 {
-    let x = stack.width;
-    let y = stack.height;
-    let z = stack.depth;
-    let width = side_of(x);
-    let height = side_of(y);
-    let depth = side_of(z);
-    if width == 0 {
-        return Writing::Unwritten(3, 0);
+    if stack::is_permitted(stack, bytes) {
+        let width = stack.width as usize;
+        let height = stack.height as usize;
+        let depth = stack.depth as usize;
+        return write_stack(width, height, depth, bytes, out);
     }
-    if height == 0 {
-        return Writing::Unwritten(3, 0);
-    }
-    if depth == 0 {
-        return Writing::Unwritten(3, 0);
-    }
-    write_stack(width, height, depth, bytes, out)
+    Writing::Unwritten(3, 0)
 }

@@ -1,5 +1,5 @@
--- The answer: what the walk's end, the start and the tests before them make of it.
-use mathlib.Core.Path.{_≡_, refl, sym, ap, _∙_}
+-- The answer: what the end, the tests before the walk, and then all four parts make of it.
+use mathlib.Core.Path.{_≡_, refl, sym, ap, subst, _∙_}
 use mathlib.Core.Bool.{Bool, true, false}
 use mathlib.Core.List.{List}
 use Prim.Native.Nat.{ℕ, _≤_, _<_}
@@ -20,160 +20,231 @@ use Rattle.rules.specs.declared.Pick.the-variants.{Accepted, Refused as IsRefus
 use Rattle.rules.specs.declared.Refused.{Refused}
 use Rattle.rules.specs.Vectors.{_⊕_, origin, lay, size}
 use Rattle.rules.specs.Solids.{between, permitted, box, inBox, look}
-use Rattle.solid.specs.Asks.{Permitted}
-use Rattle.laws.specs.Boxes.{look-inside}
 use Rattle.rules.specs.Asked.{Asked, answered, refused}
-use Rattle.rules.specs.Walk.{Stop, stop, signs, powers, pairs, levelled, normal, units, walk, Found, found, start, rounds}
-use Rattle.rules.specs.Pick.{isInside, pick, answer, pickOf}
-use Rattle.falls.specs.Tally.{Tally, yes, no, tally, Gives}
-use Rattle.falls.proofs.Tallies.{then-yes, then-no, ensured, not-ensured, at-once}
-use Rattle.pick.specs.Pick.{told, layTriangle, ending, beginning, placing, Ended, Rounded, Begun, Placed, Picked}
-use Rattle.start.specs.Start.{Started}
-use Rattle.start.specs.declared.Start.{Start}
-use Rattle.start.specs.declared.Start.the-variants.{Begun as StartBegun, Refused as StartRefused}
-use Rattle.round.specs.Round.{taking}
-use Rattle.walk.specs.Walk.{refusalOf, allowed, Walks}
+use Rattle.rules.specs.Walk.{Stop, stop, signs, levelled, normal, Probe, Found, laid, start, rounds, found, end}
+use Rattle.rules.specs.Pick.{isInside, probe, placing, judging, pick, accepted, refusal, answer, pickOf}
+use Rattle.laws.specs.Frames.{Signs, signs-are}
+use Rattle.laws.specs.Boxes.{look-inside}
+use Rattle.laws.specs.Tally.{Tally, yes, no, tally, Gives, Countable, then-yes, then-no, ensured, not-ensured, at-once}
+use Rattle.solid.specs.Asks.{PermittedSolid}
+use Rattle.falls.specs.declared.Scene.{Scene}
+use Rattle.falls.specs.Scene.{probeOf, Ready}
+use Rattle.round.specs.Round.{Sound}
+use Rattle.walk.specs.Walk.{refusalOf, walkTally, Walks}
 use Rattle.walk.specs.declared.Walked.{Walked}
 use Rattle.walk.specs.declared.Walked.the-variants.{Ended as WalkEnded, Refused as WalkRefused}
+use Rattle.start.specs.Start.{startTally, startLooks, Started}
+use Rattle.start.specs.declared.Start.{Start}
+use Rattle.start.specs.declared.Start.the-variants.{Begun, Refused as StartRefused}
+use Rattle.pick.specs.declared.Fit.{Fit}
+use Rattle.pick.specs.declared.Fit.the-variants.{Scene as FitScene, Refused as FitRefused}
+use Rattle.pick.specs.Pick.{pickTally, sceneOf, EndGives, PlacesJudged, InputsJudged, Picked}
 
--- ---- the end of the rounds
-module _ (s q : Vector) (R : ℕ) (v : Levels) (m : Triangle) (steps looks : ℕ) where
-  ending-accepted : leb (size (levelled v (normal m))) R ≡ true → Gives looks (ending s q R v (m, steps)) (yes (found s q v (m, steps)) looks)
-  unfolding ending
-  ending-accepted e = then-yes _ (ensured (stop 10 q steps) e) at-once
+-- ---- the end
+module _ (c : Probe) (R : ℕ) (v : Levels) (m : Triangle) (steps looks : ℕ) where
+  end-accepted : leb (size (levelled v (normal m))) R ≡ true → Gives looks (end c R v (m, steps)) (yes (found c v (m, steps)) looks)
+  unfolding end
+  end-accepted e = then-yes _ (ensured (stop 10 (c .apex) steps) e) at-once
 
-  ending-refused : leb (size (levelled v (normal m))) R ≡ false → Gives looks (ending s q R v (m, steps)) (no (stop 10 q steps) looks)
-  unfolding ending
-  ending-refused e = then-no _ (not-ensured e)
+  end-refused : leb (size (levelled v (normal m))) R ≡ false → Gives looks (end c R v (m, steps)) (no (stop 10 (c .apex) steps) looks)
+  unfolding end
+  end-refused e = then-no _ (not-ensured e)
 
-module _ (look : Vector → Look) (s q : Vector) (R : ℕ) (v : Levels) (looks : ℕ) where
-  rounds-ended : {m : Triangle} {n k : ℕ} {r : Tally Stop Found} → Gives looks (walk look q s (powers R) (taking v pairs) (allowed R v) 0 units) (yes (m, n) k) → Gives k (ending s q R v (m, n)) r → Gives looks (rounds look s q R v) r
-  unfolding rounds ending
-  rounds-ended h g = then-yes _ h g
-
-  rounds-refused : {e : Stop} {k : ℕ} → Gives looks (walk look q s (powers R) (taking v pairs) (allowed R v) 0 units) (no e k) → Gives looks (rounds look s q R v) (no e k)
-  unfolding rounds
-  rounds-refused h = then-no _ h
-
--- ---- the start
-module _ (look : Vector → Look) (s p q : Vector) (R : ℕ) where
-  begun-on : {v : Levels} {k : ℕ} {r : Tally Stop Found} → Gives 0 (start look s p q R) (yes v k) → Gives k (rounds look s q R v) r → Gives 0 (beginning look s p q R) r
-  unfolding beginning
-  begun-on h g = then-yes _ h g
-
-  begun-refused : {e : Stop} {k : ℕ} → Gives 0 (start look s p q R) (no e k) → Gives 0 (beginning look s p q R) (no e k)
-  unfolding beginning
-  begun-refused h = then-no _ h
-
--- ---- refusal 4
-module _ (look : Vector → Look) (s p q : Vector) (R : ℕ) where
-  start-outside-box : isInside (look p) ≡ false → Gives 0 (placing look s p q R) (no (stop 4 p 0) 0)
+-- ---- judging the inputs: refusal 4
+module _ (c : Probe) (p : Vector) where
+  start-outside-box : isInside (c .look p) ≡ false → Gives 0 (placing c p) (no (stop 4 p 0) 0)
   unfolding placing
   start-outside-box e = then-no _ (not-ensured e)
 
-  module _ (a : isInside (look p) ≡ true) where
-    apex-outside-box : isInside (look q) ≡ false → Gives 0 (placing look s p q R) (no (stop 4 q 0) 0)
+  module _ (a : isInside (c .look p) ≡ true) where
+    apex-outside-box : isInside (c .look (c .apex)) ≡ false → Gives 0 (placing c p) (no (stop 4 (c .apex) 0) 0)
     unfolding placing
-    apex-outside-box e = then-yes _ (ensured (stop 4 p 0) a) (then-no _ (not-ensured e))
+    apex-outside-box e = then-yes _ (ensured (stop 4 p 0) a) (not-ensured e)
 
-    placed-on : {r : Tally Stop Found} → isInside (look q) ≡ true → Gives 0 (beginning look s p q R) r → Gives 0 (placing look s p q R) r
+    both-inside : isInside (c .look (c .apex)) ≡ true → Gives 0 (placing c p) (yes tt 0)
     unfolding placing
-    placed-on b h = then-yes _ (ensured (stop 4 p 0) a) (then-yes _ (ensured (stop 4 q 0) b) h)
+    both-inside b = then-yes _ (ensured (stop 4 p 0) a) (ensured (stop 4 (c .apex) 0) b)
 
 -- ---- refusals 1, 2, 3
 module _ (allowed : Bool) (look : Vector → Look) (p : Vector) (frame reach : ℤ) where
-  reach-refused : between (pos 1) reach (pos 256) ≡ false → Gives 0 (pick allowed look p frame reach) (no (stop 1 origin 0) 0)
-  unfolding pick
+  abbrev judgement : Asked Stop (Unit {0})
+  judgement = judging allowed look p frame reach
+
+  reach-refused : between (pos 1) reach (pos 256) ≡ false → Gives 0 judgement (no (stop 1 origin 0) 0)
+  unfolding judging
   reach-refused e = then-no _ (not-ensured e)
 
   module _ (a : between (pos 1) reach (pos 256) ≡ true) where
-    frame-refused : between (pos 0) frame (pos 7) ≡ false → Gives 0 (pick allowed look p frame reach) (no (stop 2 origin 0) 0)
-    unfolding pick
+    frame-refused : between (pos 0) frame (pos 7) ≡ false → Gives 0 judgement (no (stop 2 origin 0) 0)
+    unfolding judging
     frame-refused e = then-yes _ (ensured (stop 1 origin 0) a) (then-no _ (not-ensured e))
 
     module _ (b : between (pos 0) frame (pos 7) ≡ true) where
-      solid-refused : allowed ≡ false → Gives 0 (pick allowed look p frame reach) (no (stop 3 origin 0) 0)
-      unfolding pick
+      solid-refused : allowed ≡ false → Gives 0 judgement (no (stop 3 origin 0) 0)
+      unfolding judging
       solid-refused e = then-yes _ (ensured (stop 1 origin 0) a) (then-yes _ (ensured (stop 2 origin 0) b) (then-no _ (not-ensured e)))
 
-      solid-permitted : {r : Tally Stop Found} → allowed ≡ true → Gives 0 (placing look (signs (natAbs frame)) p (p ⊕ signs (natAbs frame)) (natAbs reach)) r → Gives 0 (pick allowed look p frame reach) r
-      unfolding pick placing beginning
+      solid-permitted : {r : Tally Stop (Unit {0})} → allowed ≡ true → Gives 0 (placing (probe look p frame reach) p) r → Gives 0 judgement r
+      unfolding judging
       solid-permitted e h = then-yes _ (ensured (stop 1 origin 0) a) (then-yes _ (ensured (stop 2 origin 0) b) (then-yes _ (ensured (stop 3 origin 0) e) h))
+
+-- ---- the whole pick, part by part
+module _ (allowed : Bool) (look : Vector → Look) (p : Vector) (frame reach : ℤ) where
+  abbrev c : Probe
+  c = probe look p frame reach
+
+  abbrev R : ℕ
+  R = natAbs reach
+
+  refused-inputs : {e : Stop} {k : ℕ} → Gives 0 (judging allowed look p frame reach) (no e k) → Gives 0 (pick allowed look p frame reach) (no e k)
+  unfolding pick
+  refused-inputs h = then-no _ h
+
+  module _ (h : Gives 0 (judging allowed look p frame reach) (yes tt 0)) where
+    refused-start : {e : Stop} {k : ℕ} → Gives 0 (start c p) (no e k) → Gives 0 (pick allowed look p frame reach) (no e k)
+    unfolding pick
+    refused-start g = then-yes _ h (then-no _ g)
+
+    module _ {v : Levels} {k : ℕ} (g : Gives 0 (start c p) (yes v k)) where
+      refused-rounds : {e : Stop} {l : ℕ} → Gives k (rounds c R v) (no e l) → Gives 0 (pick allowed look p frame reach) (no e l)
+      unfolding pick
+      refused-rounds i = then-yes _ h (then-yes _ g (then-no _ i))
+
+      whole : {e : Triangle × ℕ} {l : ℕ} {r : Tally Stop Found} → Gives k (rounds c R v) (yes e l) → Gives l (end c R v e) r → Gives 0 (pick allowed look p frame reach) r
+      unfolding pick
+      whole i j = then-yes _ h (then-yes _ g (then-yes _ i j))
 
 -- ---- the answer is the definition's
 answerOf : Tally Stop Found → Pick
-answerOf (yes f n) = Accepted record { normal = f .normal; triangle = f .triangle; apex = f .apex; steps = f .steps; looks = n }
-answerOf (no e n) = IsRefused record { number = e .number; place = e .place; steps = e .steps; looks = n }
+answerOf (yes f n) = Accepted (accepted f n)
+answerOf (no e n) = IsRefused (refusal e n)
 
-told-answer : (r : Pick) → r ≡ answerOf (told r)
+tally-of : (r : Pick) → r ≡ answerOf (pickTally r)
 unfolding answerOf
-told-answer (Accepted a) = refl
-told-answer (IsRefused a) = refl
+tally-of (Accepted a) = refl
+tally-of (IsRefused a) = refl
 
 tally-answer : (x : Asked Stop Found) → answerOf (tally 0 x) ≡ answer x
 unfolding answerOf tally answer
 tally-answer (answered f t) = ap (λ (n : ℕ). answerOf (yes f n)) (omega arith)
 tally-answer (refused e t) = ap (λ (n : ℕ). answerOf (no e n)) (omega arith)
 
-pub is-answer : (x : Asked Stop Found) {r : Pick} → Gives 0 x (told r) → r ≡ answer x
-is-answer x {r} h = told-answer r ∙ ap answerOf (h .is) ∙ tally-answer x
+pub is-answer : (x : Asked Stop Found) {r : Pick} → Gives 0 x (pickTally r) → r ≡ answer x
+is-answer x {r} h = tally-of r ∙ ap answerOf (h .is) ∙ tally-answer x
 
 -- ---- from what the callees promised to what the caller promises
-module _ {s q : Vector} {R : ℕ} {v : Levels} {m : Triangle} {steps looks : ℕ} {whole n : Vector} {k : ℕ} (w : whole ≡ normal m) (a : n ≡ levelled v whole) (b : k ≡ size n) where
-  pub ended-accepted : {laid : Vector} {t : Triangle} → k ≤ R → laid ≡ lay s n → t ≡ layTriangle s m → Ended s q R v m steps looks (Accepted record { normal = laid; triangle = t; apex = q; steps = steps; looks = looks })
+module _ {v : Scene} {level : Levels} {m : Triangle} {steps looks : ℕ} {whole n : Vector} {k : ℕ} (w : whole ≡ normal m) (a : n ≡ levelled level whole) (b : k ≡ size n) where
+  pub ended-accepted : {u : Vector} {t : Triangle} → k ≤ v .reach → u ≡ lay (v .signs) n → t ≡ laid (v .signs) m
+      → EndGives v level m steps looks (Accepted record { normal = u; triangle = t; apex = v .apex; steps = steps; looks = looks })
   unfolding found
-  ended-accepted h e f = record { gives = rw (e, f, a, w) (ending-accepted s q R v m steps looks (le-leb _ _ (rw (b, a, w) at h))) }
+  ended-accepted h e f = record { gives = λ bytes. rw (e, f, a, w) (end-accepted (probeOf v bytes) (v .reach) level m steps looks (le-leb _ _ (rw (b, a, w) at h))) }
 
-  pub ended-refused : {r : Refused} → R < k → r ≡ refusalOf 10 q steps looks → Ended s q R v m steps looks (IsRefused r)
-  ended-refused h e = record { gives = rw e (ending-refused s q R v m steps looks (lt-leb _ _ (rw (b, a, w) at h))) }
+  pub ended-refused : {r : Refused} → v .reach < k → r ≡ refusalOf 10 (v .apex) steps looks → EndGives v level m steps looks (IsRefused r)
+  ended-refused h e = record { gives = λ bytes. rw e (end-refused (probeOf v bytes) (v .reach) level m steps looks (lt-leb _ _ (rw (b, a, w) at h))) }
 
-module _ {look : Vector → Look} {s q : Vector} {R : ℕ} {v : Levels} {looks : ℕ} {w : Walked} (h : Walks look q s R v looks w) where
-  pub rounded-ended : {m : Triangle} {n k : ℕ} {r : Pick} → w ≡ WalkEnded m n k → Ended s q R v m n k r → Rounded look s q R v looks r
-  rounded-ended e g = record { gives = rounds-ended look s q R v looks (rw e at (h .gives)) (g .gives) }
+-- the apex, as it was computed and judged
+apex-is : (p : Vector) (frame : ℕ) {s q : Vector} → s ≡ signs frame → q ≡ p ⊕ s → q ≡ p ⊕ signs frame
+apex-is p frame hs hq = hq ∙ ap (λ (s : Vector). p ⊕ s) hs
 
-  pub rounded-refused : {r : Refused} → w ≡ WalkRefused r → Rounded look s q R v looks (IsRefused r)
-  rounded-refused e = record { gives = rounds-refused look s q R v looks (rw e at (h .gives)) }
+inside-is : (solid : Solid) (bytes : List ℕ) {a q : Vector} {b t : Bool} → q ≡ a → b ≡ inBox (box solid) q → b ≡ t → isInside (look solid bytes a) ≡ t
+inside-is solid bytes {q = q} e h g = rw (← e) (look-inside solid bytes q ∙ sym h ∙ g)
 
-module _ {look : Vector → Look} {s p q : Vector} {R : ℕ} {b : Start} (h : Started look q s R p b) where
-  pub begun-rounds : {v : Levels} {n : ℕ} {r : Pick} → b ≡ StartBegun v n → Rounded look s q R v n r → Begun look s p q R r
-  begun-rounds e g = record { gives = begun-on look s p q R (rw e at (h .gives)) (g .gives) }
+module _ {solid : Solid} {bytes : List ℕ} (ok : PermittedSolid solid bytes) {p : Vector} {frame R : ℕ} {a : Bool} (ha : a ≡ inBox (box solid) p) where
+  pub placed-outside : {r : Refused} → a ≡ false → r ≡ refusalOf 4 p 0 0 → PlacesJudged solid bytes p frame R (FitRefused r)
+  placed-outside e f = record { gives = rw f (start-outside-box (probeOf (sceneOf solid p frame R) bytes) p (inside-is solid bytes refl ha e)); fits = tt }
 
-  pub begun-no : {r : Refused} → b ≡ StartRefused r → Begun look s p q R (IsRefused r)
-  begun-no e = record { gives = begun-refused look s p q R (rw e at (h .gives)) }
+  module _ {s q : Vector} {b : Bool} (hs : s ≡ signs frame) (hq : q ≡ p ⊕ s) (hb : b ≡ inBox (box solid) q) (e : a ≡ true) where
+    pub placed-apex-outside : {r : Refused} → b ≡ false → r ≡ refusalOf 4 q 0 0 → PlacesJudged solid bytes p frame R (FitRefused r)
+    placed-apex-outside g f =
+        let i = apex-is p frame hs hq in
+        record { gives = rw (f, i) (apex-outside-box (probeOf (sceneOf solid p frame R) bytes) p (inside-is solid bytes refl ha e) (inside-is solid bytes i hb g)); fits = tt }
 
-module _ {solid : Solid} {bytes : List ℕ} (ok : Permitted solid bytes) {p : Vector} {frame R : ℕ} {a : Bool} (ha : a ≡ inBox (box solid) p) where
-  pub placed-outside : {r : Refused} → a ≡ false → r ≡ refusalOf 4 p 0 0 → Placed solid bytes p frame R (IsRefused r)
-  placed-outside e f = record { gives = rw f (start-outside-box (look solid bytes) (signs frame) p (p ⊕ signs frame) R (look-inside solid bytes p ∙ sym ha ∙ e)) }
+    pub placed-inside : b ≡ true → R ≤ 256 → PlacesJudged solid bytes p frame R (FitScene record { solid = solid; apex = q; signs = s; reach = R })
+    placed-inside g h =
+        let i = apex-is p frame hs hq in
+        record {
+          gives = both-inside (probeOf (sceneOf solid p frame R) bytes) p (inside-is solid bytes refl ha e) (inside-is solid bytes i hb g);
+          fits = (
+            λ j. record { solid = solid; apex = i j; signs = hs j; reach = R },
+            record { permitted = ok; placed = record { is = sym hb ∙ g }; signed = rw hs (signs-are frame); reach-high = h },
+          );
+        }
 
-  module _ {s q : Vector} {b : Bool} (hs : s ≡ signs frame) (hq : q ≡ p ⊕ s) (hb : b ≡ inBox (box solid) q) where
-    pub placed-apex-outside : {r : Refused} → a ≡ true → b ≡ false → r ≡ refusalOf 4 q 0 0 → Placed solid bytes p frame R (IsRefused r)
-    placed-apex-outside e g f =
-        record { gives = rw (← hs, ← hq, f) (apex-outside-box (look solid bytes) s p q R (look-inside solid bytes p ∙ sym ha ∙ e) (look-inside solid bytes q ∙ sym hb ∙ g)) }
+pub ruleset answering = (ended-accepted, ended-refused, placed-outside, placed-apex-outside, placed-inside)
 
-    pub placed-begun : {r : Pick} → a ≡ true → b ≡ true → Begun (look solid bytes) s p q R r → Placed solid bytes p frame R r
-    placed-begun e g h = record { gives = rw (← hs, ← hq) (placed-on (look solid bytes) s p q R (look-inside solid bytes p ∙ sym ha ∙ e) (look-inside solid bytes q ∙ sym hb ∙ g) (h .gives)) }
-
-pub ruleset answering = (ended-accepted, ended-refused, rounded-ended, rounded-refused, begun-rounds, begun-no, placed-outside, placed-apex-outside, placed-begun)
-
--- ---- the whole pick, of the numbers as they were read
+-- ---- the inputs, as the numbers were read
 module _ {solid : Solid} {bytes : List ℕ} {p : Vector} {frame reach : ℤ} {a : Bool} (ha : a ≡ between (pos 1) reach (pos 256)) where
-  pub picked-reach : {r : Refused} → a ≡ false → r ≡ refusalOf 1 origin 0 0 → Picked solid bytes p frame reach (IsRefused r)
-  unfolding pickOf
-  picked-reach e f = record { is = is-answer _ (rw f (reach-refused (permitted solid bytes) (look solid bytes) p frame reach (sym ha ∙ e))) }
+  pub judged-reach : {r : Refused} → a ≡ false → r ≡ refusalOf 1 origin 0 0 → InputsJudged solid bytes p frame reach (FitRefused r)
+  judged-reach e f = record { gives = rw f (reach-refused (permitted solid bytes) (look solid bytes) p frame reach (sym ha ∙ e)); fits = tt }
 
   module _ {b : Bool} (hb : b ≡ between (pos 0) frame (pos 7)) where
-    pub picked-frame : {r : Refused} → a ≡ true → b ≡ false → r ≡ refusalOf 2 origin 0 0 → Picked solid bytes p frame reach (IsRefused r)
-    unfolding pickOf
-    picked-frame e g f = record { is = is-answer _ (rw f (frame-refused (permitted solid bytes) (look solid bytes) p frame reach (sym ha ∙ e) (sym hb ∙ g))) }
+    pub judged-frame : {r : Refused} → a ≡ true → b ≡ false → r ≡ refusalOf 2 origin 0 0 → InputsJudged solid bytes p frame reach (FitRefused r)
+    judged-frame e g f = record { gives = rw f (frame-refused (permitted solid bytes) (look solid bytes) p frame reach (sym ha ∙ e) (sym hb ∙ g)); fits = tt }
 
     module _ {d : Bool} (hd : d ≡ permitted solid bytes) where
-      pub picked-solid : {r : Refused} → a ≡ true → b ≡ true → d ≡ false → r ≡ refusalOf 3 origin 0 0 → Picked solid bytes p frame reach (IsRefused r)
-      unfolding pickOf
-      picked-solid e g k f = record { is = is-answer _ (rw f (solid-refused (permitted solid bytes) (look solid bytes) p frame reach (sym ha ∙ e) (sym hb ∙ g) (sym hd ∙ k))) }
+      pub judged-solid : {r : Refused} → a ≡ true → b ≡ true → d ≡ false → r ≡ refusalOf 3 origin 0 0 → InputsJudged solid bytes p frame reach (FitRefused r)
+      judged-solid e g k f = record { gives = rw f (solid-refused (permitted solid bytes) (look solid bytes) p frame reach (sym ha ∙ e) (sym hb ∙ g) (sym hd ∙ k)); fits = tt }
 
-      pub picked-placed : {r : Pick} → a ≡ true → b ≡ true → d ≡ true → Placed solid bytes p (natAbs frame) (natAbs reach) r → Picked solid bytes p frame reach r
+      pub judged-placed : {r : Fit} → a ≡ true → b ≡ true → d ≡ true → PlacesJudged solid bytes p (natAbs frame) (natAbs reach) r → InputsJudged solid bytes p frame reach r
+      judged-placed e g k h = record { gives = solid-permitted (permitted solid bytes) (look solid bytes) p frame reach (sym ha ∙ e) (sym hb ∙ g) (sym hd ∙ k) (h .gives); fits = h .fits }
+
+pub judged-read : {solid : Solid} {bytes : List ℕ} {p : Vector} {frame reach : ℤ} {r : Fit} → SFits w32 frame → SFits w32 reach → InputsJudged solid bytes p (toZ w32 (ofZ w32 frame)) (toZ w32 (ofZ w32 reach)) r → InputsJudged solid bytes p frame reach r
+judged-read f g h = rw (toZ-ofZ f, toZ-ofZ g) at h
+
+-- ---- what each part of the pick may take for granted
+module _ {solid : Solid} {bytes : List ℕ} {p : Vector} {frame reach : ℤ} {fit : Fit} {v : Scene} (h : InputsJudged solid bytes p frame reach fit) (e : fit ≡ FitScene v) where
+  pub scene-ready : Ready v bytes
+  scene-ready = (rw e at (h .fits)) .1
+
+  pub scene-signed : Signs (v .signs)
+  scene-signed = scene-ready .signed
+
+pub begun-countable : {c : Probe} {p : Vector} {begun : Start} {level : Levels} {n : ℕ} → Started c p begun → begun ≡ Begun level n → Countable 1542 n
+begun-countable h e = omega (arith, h .few, ap startLooks e)
+
+pub end-sound : {c : Probe} {R : ℕ} {level : Levels} {looks : ℕ} {walked : Walked} {m : Triangle} {steps k : ℕ} → Walks c R level looks walked → walked ≡ WalkEnded m steps k → Sound m
+end-sound h e = rw e at (h .sound)
+
+pub ruleset granted = (scene-ready, scene-signed, begun-countable, end-sound)
+
+-- ---- the whole pick, of the numbers as they were read
+module _ {solid : Solid} {bytes : List ℕ} {p : Vector} {frame reach : ℤ} {fit : Fit} (fits-frame : SFits w32 frame) (fits-reach : SFits w32 reach) (read : InputsJudged solid bytes p (toZ w32 (ofZ w32 frame)) (toZ w32 (ofZ w32 reach)) fit) where
+  h : InputsJudged solid bytes p frame reach fit
+  h = judged-read fits-frame fits-reach read
+
+  pub picked-inputs : {r : Refused} → fit ≡ FitRefused r → Picked solid bytes p frame reach (IsRefused r)
+  unfolding pickOf
+  picked-inputs e = record { is = is-answer _ (refused-inputs (permitted solid bytes) (look solid bytes) p frame reach (rw e at (h .gives))) }
+
+  module _ {v : Scene} {begun : Start} (e : fit ≡ FitScene v) (g : Started (probeOf v bytes) p begun) where
+    fits : (v ≡ sceneOf solid p (natAbs frame) (natAbs reach)) × Ready v bytes
+    fits = rw e at (h .fits)
+
+    judged : Gives 0 (judging (permitted solid bytes) (look solid bytes) p frame reach) (yes tt 0)
+    judged = rw e at (h .gives)
+
+    started : {b : Start} → begun ≡ b → Gives 0 (start (probe (look solid bytes) p frame reach) p) (startTally b)
+    started {b} i = subst (λ (w : Scene). Gives 0 (start (probeOf w bytes) p) (startTally b)) (fits .0) (rw i at (g .gives))
+
+    pub picked-start : {r : Refused} → begun ≡ StartRefused r → Picked solid bytes p frame reach (IsRefused r)
+    unfolding pickOf
+    picked-start i = record { is = is-answer _ (refused-start (permitted solid bytes) (look solid bytes) p frame reach judged (started i)) }
+
+    module _ {level : Levels} {n : ℕ} {walked : Walked} (i : begun ≡ Begun level n) (w : Walks (probeOf v bytes) (v .reach) level n walked) where
+      rounded : {b : Walked} → walked ≡ b → Gives n (rounds (probe (look solid bytes) p frame reach) (natAbs reach) level) (walkTally b)
+      rounded {b} j = subst (λ (s : Scene). Gives n (rounds (probeOf s bytes) (s .reach) level) (walkTally b)) (fits .0) (rw j at (w .gives))
+
+      pub picked-rounds : {r : Refused} → walked ≡ WalkRefused r → Picked solid bytes p frame reach (IsRefused r)
       unfolding pickOf
-      picked-placed e g k h = record { is = is-answer _ (solid-permitted (permitted solid bytes) (look solid bytes) p frame reach (sym ha ∙ e) (sym hb ∙ g) (sym hd ∙ k) (h .gives)) }
+      picked-rounds j = record { is = is-answer _ (refused-rounds (permitted solid bytes) (look solid bytes) p frame reach judged (started i) (rounded j)) }
+
+      pub picked-end : {m : Triangle} {steps k : ℕ} {r : Pick} → walked ≡ WalkEnded m steps k → EndGives v level m steps k r → Picked solid bytes p frame reach r
+      unfolding pickOf
+      picked-end {m} {steps} {k} {r} j d =
+          let ended = subst (λ (s : Scene). Gives k (end (probeOf s bytes) (s .reach) level (m, steps)) (pickTally r)) (fits .0) (d .gives bytes) in
+          record { is = is-answer _ (whole (permitted solid bytes) (look solid bytes) p frame reach judged (started i) (rounded j) ended) }
+
+pub ruleset picking = (picked-inputs, picked-start, picked-rounds)
 
 pub picked-read : {solid : Solid} {bytes : List ℕ} {p : Vector} {frame reach : ℤ} {r : Pick} → SFits w32 frame → SFits w32 reach → Picked solid bytes p (toZ w32 (ofZ w32 frame)) (toZ w32 (ofZ w32 reach)) r → Picked solid bytes p frame reach r
 picked-read f g h = rw (toZ-ofZ f, toZ-ofZ g) at h

@@ -10,7 +10,7 @@ use mir.Syntax.{w32}
 use mir.Val.{Fits}
 use Rattle.integers.specs.Order.{parts}
 use Rattle.rules.specs.Solids.{between}
-use Rattle.laws.specs.Boxes.{between-yes}
+use Rattle.range.specs.Ranges.{between-yes}
 
 pub record Range (low high : ℕ) (z : ℤ) : Type 0 where
   pub natural : T (nonNeg z)

@@ -13,8 +13,9 @@ use Rattle.rules.specs.declared.Pick.the-variants.{Accepted, Refused}
 use Rattle.rules.specs.Vectors.{vector, _⊕_, _⊖_, minus, scale, dot, cross, det, sphere, lay, size, origin}
 use Rattle.rules.specs.Solids.{between, permittedWedge, filledWedge, inBox, look}
 use Rattle.rules.specs.Asked.{after, _>>=_}
-use Rattle.rules.specs.Walk.{ensure, sign, signs, seen, asked, powersFrom, powers, units, allLevel, keep, only, remaining, takesPart, levelled, normal, determinant, inside, anyInside, firstFree, choice, lookAt, falls, isLevel, axes, falling, round, walk, found, start, rounds}
-use Rattle.rules.specs.Pick.{isInside, pick, answer, pickOf, WedgePromise}
+use Rattle.rules.specs.Walk.{ensure, sign, signs, seen, asked, powersFrom, powers, units, allLevel, keep, only, remaining, takesPart, levelled, normal, determinant, inside, anyInside, firstFree, choice, lookAt, fallsAt, facing, isLevel, axes, start, falling, round, walk, rounds, found, end}
+use Rattle.laws.specs.Answers.{looksOf}
+use Rattle.rules.specs.Pick.{isInside, placing, judging, pick, answer, pickOf, WedgePromise}
 
 abbrev pub normalOf : Pick → Vector
 normalOf (Accepted a) = a .normal
@@ -24,15 +25,11 @@ abbrev pub triangleOf : Pick → Triangle
 triangleOf (Accepted a) = a .triangle
 triangleOf (Refused r) = units
 
-abbrev pub looksOf : Pick → ℕ
-looksOf (Accepted a) = a .looks
-looksOf (Refused r) = r .looks
-
 abbrev wedge : ℤ → ℤ → ℤ → ℤ → Wedge
 wedge a b c h = record { a = a; b = b; c = c; h = h }
 
-abbrev place : Vector
-place = vector (pos 100) (pos 100) (pos 100)
+abbrev spot : Vector
+spot = vector (pos 100) (pos 100) (pos 100)
 
 -- W8, in a frame with one minus sign
 abbrev w8 : Wedge
@@ -51,29 +48,29 @@ abbrev opposing : Wedge
 opposing = wedge (pos 0) (negsuc 0) (pos 2) (pos 101)
 
 evaluated :
-    (normalOf (pickOf (IsWedge w8) [] place (pos 1) (pos 8)) ≡ vector (negsuc 0) (pos 2) (pos 5))
-    × (normal (triangleOf (pickOf (IsWedge w8) [] place (pos 1) (pos 8))) ≡ vector (pos 1) (negsuc 1) (negsuc 4))
-    × (looksOf (pickOf (IsWedge turned) [] place (pos 0) (pos 8)) ≡ 95)
-    × (looksOf (pickOf (IsWedge w4) [] place (pos 0) (pos 3)) ≡ 23)
-    × (looksOf (pickOf (IsWedge opposing) [] place (pos 0) (pos 8)) ≡ 15)
-unfolding _⊕_ _⊖_ minus scale dot cross det sphere lay size between permittedWedge filledWedge inBox look after _>>=_ ensure sign signs seen asked powersFrom powers allLevel keep only remaining takesPart levelled normal determinant inside anyInside firstFree choice lookAt falls isLevel axes falling round walk found start rounds isInside pick answer pickOf
+    (normalOf (pickOf (IsWedge w8) [] spot (pos 1) (pos 8)) ≡ vector (negsuc 0) (pos 2) (pos 5))
+    × (normal (triangleOf (pickOf (IsWedge w8) [] spot (pos 1) (pos 8))) ≡ vector (pos 1) (negsuc 1) (negsuc 4))
+    × (looksOf (pickOf (IsWedge turned) [] spot (pos 0) (pos 8)) ≡ 95)
+    × (looksOf (pickOf (IsWedge w4) [] spot (pos 0) (pos 3)) ≡ 23)
+    × (looksOf (pickOf (IsWedge opposing) [] spot (pos 0) (pos 8)) ≡ 15)
+unfolding _⊕_ _⊖_ minus scale dot cross det sphere lay size between permittedWedge filledWedge inBox look after _>>=_ ensure sign signs seen asked powersFrom powers allLevel keep only remaining takesPart levelled normal determinant inside anyInside firstFree choice lookAt fallsAt facing isLevel axes start falling round walk rounds found end isInside placing judging pick answer pickOf
 evaluated = (refl, refl, refl, refl, refl)
 
 -- the normal is not the sum of the cross products of the laid-in vectors: that one points inward
-pub not-of-laid-in-vectors : {r : Pick} → WedgePromise w8 place (pos 1) (pos 8) r → normalOf r ≡ normal (triangleOf r) → ⊥
+pub not-of-laid-in-vectors : {r : Pick} → WedgePromise w8 spot (pos 1) (pos 8) r → normalOf r ≡ normal (triangleOf r) → ⊥
 not-of-laid-in-vectors h e =
     let x = ap (λ (v : Vector). v .x) (sym (evaluated .0) ∙ sym (ap normalOf (h .is)) ∙ e ∙ ap (λ (p : Pick). normal (triangleOf p)) (h .is) ∙ evaluated .1) in
     let z : _≡_ {A = ℕ} 0 1 = cc in
     omega arith
 
 -- all pairs are asked, even after an opposite has fallen
-pub all-pairs-asked : {r : Pick} → WedgePromise turned place (pos 0) (pos 8) r → looksOf r ≡ 95
+pub all-pairs-asked : {r : Pick} → WedgePromise turned spot (pos 0) (pos 8) r → looksOf r ≡ 95
 all-pairs-asked h = ap looksOf (h .is) ∙ evaluated .2
 
 -- an opposite is asked only if minus the unit vector does not fall: nine looks more otherwise
-pub opposite-if-kept : {r : Pick} → WedgePromise w4 place (pos 0) (pos 3) r → looksOf r ≡ 23
+pub opposite-if-kept : {r : Pick} → WedgePromise w4 spot (pos 0) (pos 3) r → looksOf r ≡ 23
 opposite-if-kept h = ap looksOf (h .is) ∙ evaluated .3
 
 -- and before the next axis: one look more if minus every unit vector were asked first
-pub opposite-at-once : {r : Pick} → WedgePromise opposing place (pos 0) (pos 8) r → looksOf r ≡ 15
+pub opposite-at-once : {r : Pick} → WedgePromise opposing spot (pos 0) (pos 8) r → looksOf r ≡ 15
 opposite-at-once h = ap looksOf (h .is) ∙ evaluated .4

@@ -1,72 +1,54 @@
--- The pick: what its answer tells of the questions asked so far.
+-- The pick: what its answer, and that of judging the inputs, tell.
 use mathlib.Core.Path.{_≡_}
-use mathlib.Core.List.{List, []}
+use mathlib.Core.List.{List}
 use Prim.Native.Nat.{ℕ}
-use lib.Dec.{leb}
-use lib.IntN.{ℤ}
+use lib.IntN.{ℤ, natAbs}
 use Rattle.rules.specs.declared.Vector.{Vector}
 use Rattle.rules.specs.declared.Solid.{Solid}
-use Rattle.rules.specs.declared.Look.{Look}
 use Rattle.rules.specs.declared.Levels.{Levels}
 use Rattle.rules.specs.declared.Triangle.{Triangle}
 use Rattle.rules.specs.declared.Pick.{Pick}
 use Rattle.rules.specs.declared.Pick.the-variants.{Accepted, Refused}
-use Rattle.rules.specs.Vectors.{_⊕_, lay, size}
-use Rattle.rules.specs.Solids.{look}
-use Rattle.rules.specs.Asked.{Asked, answered, _>>=_, _>>_}
-use Rattle.rules.specs.Walk.{Stop, stop, ensure, signs, triangle, levelled, normal, Found, found, start, rounds}
-use Rattle.rules.specs.Pick.{isInside, pickOf}
+use Rattle.rules.specs.Vectors.{_⊕_}
+use Rattle.rules.specs.Solids.{permitted, look}
+use Rattle.rules.specs.Walk.{Stop, signs, Found, end}
+use Rattle.rules.specs.Pick.{placing, judging, pickOf}
+use Rattle.laws.specs.Tally.{Tally, yes, Gives}
+use Rattle.laws.specs.Answers.{foundOf}
 use Rattle.falls.specs.declared.Scene.{Scene}
-use Rattle.falls.specs.Tally.{Tally, yes, Gives}
-use Rattle.walk.specs.Walk.{toldRefusal}
+use Rattle.falls.specs.Scene.{probeOf, Ready}
+use Rattle.walk.specs.Walk.{refusalTally}
+use Rattle.pick.specs.declared.Fit.{Fit}
+use Rattle.pick.specs.declared.Fit.the-variants.{Scene as FitScene, Refused as FitRefused}
 
-abbrev pub told : Pick → Tally Stop Found
-told (Accepted a) = yes record { normal = a .normal; triangle = a .triangle; apex = a .apex; steps = a .steps } (a .looks)
-told (Refused r) = toldRefusal r
+abbrev pub pickTally : Pick → Tally Stop Found
+pickTally (Accepted a) = yes (foundOf a) (a .looks)
+pickTally (Refused r) = refusalTally r
 
-abbrev pub layTriangle : Vector → Triangle → Triangle
-layTriangle s m = triangle (lay s (m .m0)) (lay s (m .m1)) (lay s (m .m2))
+abbrev pub fitTally : Fit → Tally Stop (Unit {0})
+fitTally (FitScene v) = yes tt 0
+fitTally (FitRefused r) = refusalTally r
 
--- the end of the rounds: refusal 10, or what was found
-unfoldable pub ending : Vector → Vector → ℕ → Levels → Triangle × ℕ → Asked Stop Found
-ending s q R v e = do
-  ensure (leb (size (levelled v (normal (e .0)))) R) (stop 10 q (e .1))
-  answered (found s q v e) []
+-- the scene of these inputs
+abbrev pub sceneOf : Solid → Vector → ℕ → ℕ → Scene
+sceneOf solid p frame R = record { solid = solid; apex = p ⊕ signs frame; signs = signs frame; reach = R }
 
--- the pick from the first look on
-unfoldable pub beginning : (Vector → Look) → Vector → Vector → Vector → ℕ → Asked Stop Found
-beginning look s p q R = do
-  v ← start look s p q R
-  rounds look s q R v
+-- where none is refused it is that scene, and every question may be asked in it
+abbrev pub FitsTo : Solid → List ℕ → Vector → ℕ → ℕ → Fit → Type 0
+FitsTo solid bytes p frame R (FitScene v) = (v ≡ sceneOf solid p frame R) × Ready v bytes
+FitsTo solid bytes p frame R (FitRefused r) = Unit {0}
 
--- the pick from refusal 4 on
-unfoldable pub placing : (Vector → Look) → Vector → Vector → Vector → ℕ → Asked Stop Found
-placing look s p q R = do
-  ensure (isInside (look p)) (stop 4 p 0)
-  ensure (isInside (look q)) (stop 4 q 0)
-  beginning look s p q R
+pub record PlacesJudged (solid : Solid) (bytes : List ℕ) (p : Vector) (frame R : ℕ) (r : Fit) : Type 0 where
+  pub gives : Gives 0 (placing (probeOf (sceneOf solid p frame R) bytes) p) (fitTally r)
+  pub fits : FitsTo solid bytes p frame R r
 
-pub record Ended (s q : Vector) (R : ℕ) (v : Levels) (m : Triangle) (steps looks : ℕ) (r : Pick) : Type 0 where
-  pub gives : Gives looks (ending s q R v (m, steps)) (told r)
+pub record InputsJudged (solid : Solid) (bytes : List ℕ) (p : Vector) (frame reach : ℤ) (r : Fit) : Type 0 where
+  pub gives : Gives 0 (judging (permitted solid bytes) (look solid bytes) p frame reach) (fitTally r)
+  pub fits : FitsTo solid bytes p (natAbs frame) (natAbs reach) r
 
-pub record Rounded (look : Vector → Look) (s q : Vector) (R : ℕ) (v : Levels) (looks : ℕ) (r : Pick) : Type 0 where
-  pub gives : Gives looks (rounds look s q R v) (told r)
-
-pub record Begun (look : Vector → Look) (s p q : Vector) (R : ℕ) (r : Pick) : Type 0 where
-  pub gives : Gives 0 (beginning look s p q R) (told r)
-
-pub record Placed (solid : Solid) (bytes : List ℕ) (p : Vector) (frame R : ℕ) (r : Pick) : Type 0 where
-  pub gives : Gives 0 (placing (look solid bytes) (signs frame) p (p ⊕ signs frame) R) (told r)
+-- the end asks nothing, so the bytes play no part
+pub record EndGives (v : Scene) (level : Levels) (m : Triangle) (steps looks : ℕ) (r : Pick) : Type 0 where
+  pub gives : (bytes : List ℕ) → Gives looks (end (probeOf v bytes) (v .reach) level (m, steps)) (pickTally r)
 
 pub record Picked (solid : Solid) (bytes : List ℕ) (p : Vector) (frame reach : ℤ) (r : Pick) : Type 0 where
   pub is : r ≡ pickOf solid bytes p frame reach
-
--- in a scene, with the bytes lent
-abbrev pub EndedIn : Scene → Levels → Triangle → ℕ → ℕ → Pick → Type 0
-EndedIn v level m steps looks r = Ended (v .signs) (v .apex) (v .reach) level m steps looks r
-
-abbrev pub RoundedIn : Scene → List ℕ → Levels → ℕ → Pick → Type 0
-RoundedIn v bytes level looks r = Rounded (look (v .solid) bytes) (v .signs) (v .apex) (v .reach) level looks r
-
-abbrev pub BegunIn : Scene → List ℕ → Vector → Pick → Type 0
-BegunIn v bytes p r = Begun (look (v .solid) bytes) (v .signs) p (v .apex) (v .reach) r

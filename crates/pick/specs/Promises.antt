@@ -1,26 +1,22 @@
 -- The two promises settle the answer: two answers that one allows are equal. A stack's answer depends on the voxels of its box alone:
 -- no bit that pads a row is looked at, and no byte behind those needed.
-use mathlib.Core.Path.{_≡_, refl, sym, ap, _∙_}
-use mathlib.Core.Bool.{Bool, true, false, _&&_}
+use mathlib.Core.Path.{_≡_, sym, _∙_}
+use mathlib.Core.Bool.{true}
 use mathlib.Core.List.{List, _++_}
-use Prim.Native.Nat.{ℕ, _+_, _*_, _/_, _<_}
-use native.Mathlib.Nat.{mul-assoc, lt-of-lt-of-le}
+use Prim.Native.Nat.{ℕ}
 use native.Mathlib.Omega.{arith}
-use lib.Dec.{leb}
-use lib.IntN.{ℤ, natAbs}
-use lib.ListN.{length, length-append, List·getD-append}
-use borrow.Author.Tests.{leb-true, le-leb}
+use lib.IntN.{ℤ}
+use lib.ListN.{length-append, List·getD-append}
 use Rattle.rules.specs.declared.Vector.{Vector}
 use Rattle.rules.specs.declared.Wedge.{Wedge}
 use Rattle.rules.specs.declared.Stack.{Stack}
 use Rattle.rules.specs.declared.Solid.the-variants.{Stack as IsStack}
 use Rattle.rules.specs.declared.Pick.{Pick}
-use Rattle.rules.specs.Solids.{rowBytes, sliceBytes, stackBytes, permittedStack, voxel, filledStack, box, inBox, seenAs, look}
-use Rattle.solid.specs.Asks.{Permitted, sizesPermitted}
-use Rattle.solid.specs.Facts.{split, permitted-stack, stack-asks}
-use Rattle.solid.proofs.Radix.{radix}
-use Rattle.solid.proofs.Naturals.{along-below}
+use Rattle.rules.specs.Solids.{permittedStack, voxel, filledStack, box, inBox}
 use Rattle.rules.specs.Pick.{pick, answer, pickOf, WedgePromise, StackPromise}
+use Rattle.stack.specs.Sides.{sized, permitted-too}
+use Rattle.stack.specs.Voxels.{point-held, voxel-held, looks-alike}
+use Rattle.solid.specs.Asks.{PermittedSolid}
 
 pub wedge-settled : {w : Wedge} {p : Vector} {frame reach : ℤ} {r t : Pick} → WedgePromise w p frame reach r → WedgePromise w p frame reach t → r ≡ t
 wedge-settled h k = h .is ∙ sym (k .is)
@@ -33,42 +29,22 @@ pub record Alike (k : Stack) (a b : List ℕ) : Type 0 where
   pub permitted : permittedStack k a ≡ permittedStack k b
   pub voxels : (v : Vector) → inBox (box (IsStack k)) v ≡ true → filledStack k a v ≡ filledStack k b v
 
-seen-alike : (inside f g : Bool) → (inside ≡ true → f ≡ g) → seenAs inside f ≡ seenAs inside g
-seen-alike false f g h = refl
-seen-alike true f g h = λ i. seenAs true (h refl i)
-
 module _ {k : Stack} {a b : List ℕ} (h : Alike k a b) where
-  looks-alike : (v : Vector) → look (IsStack k) a v ≡ look (IsStack k) b v
-  unfolding look
-  looks-alike v = seen-alike (inBox (box (IsStack k)) v) (filledStack k a v) (filledStack k b v) (h .voxels v)
-
   picks-alike : (p : Vector) (frame reach : ℤ) → pickOf (IsStack k) a p frame reach ≡ pickOf (IsStack k) b p frame reach
   unfolding pickOf
-  picks-alike p frame reach = λ i. answer (pick (h .permitted i) (λ v. looks-alike v i) p frame reach)
+  picks-alike p frame reach = λ i. answer (pick (h .permitted i) (λ v. looks-alike k a b (h .voxels) v i) p frame reach)
 
   pub stack-answers-alike : {p : Vector} {frame reach : ℤ} {r t : Pick} → StackPromise k a p frame reach r → StackPromise k b p frame reach t → r ≡ t
   stack-answers-alike {p} {frame} {reach} u v = u .is ∙ picks-alike p frame reach ∙ sym (v .is)
 
 -- ---- bytes behind those needed
-module _ {k : Stack} {bytes : List ℕ} (ok : Permitted (IsStack k) bytes) (behind : List ℕ) where
-  -- the byte of a voxel of the box is one of those needed
-  byte-in : (v : Vector) → inBox (box (IsStack k)) v ≡ true
-      → (natAbs (v .z) * natAbs (k .height) + natAbs (v .y)) * rowBytes (natAbs (k .width)) + natAbs (v .x) / 8 < length bytes
-  unfolding stackBytes sliceBytes rowBytes
-  byte-in v e =
-      let h = stack-asks ok record { is = e } in
-      let x = along-below (h .along-x) in
-      lt-of-lt-of-le (radix (radix (along-below (h .along-z)) (along-below (h .along-y))) (omega arith)) (rw mul-assoc (h .room))
-
+module _ {k : Stack} {bytes : List ℕ} (ok : PermittedSolid (IsStack k) bytes) (behind : List ℕ) where
   voxel-alike : (v : Vector) → inBox (box (IsStack k)) v ≡ true → filledStack k (bytes ++ behind) v ≡ filledStack k bytes v
   unfolding filledStack voxel
-  voxel-alike v e = rw (List·getD-append bytes behind 0 _ (byte-in v e))
+  voxel-alike v e = rw (List·getD-append bytes behind 0 _ (voxel-held (point-held (ok .is) e)))
 
   room-alike : permittedStack k (bytes ++ behind) ≡ permittedStack k bytes
-  room-alike =
-      let room = split (sizesPermitted k) (leb (stackBytes k) (length bytes)) (sym (permitted-stack k bytes) ∙ ok .is) .1 in
-      let more : leb (stackBytes k) (length (bytes ++ behind)) ≡ true = le-leb (stackBytes k) (length (bytes ++ behind)) (omega (arith, leb-true (stackBytes k) (length bytes) room, length-append bytes behind)) in
-      permitted-stack k (bytes ++ behind) ∙ ap (λ (b : Bool). sizesPermitted k && b) (more ∙ sym room) ∙ sym (permitted-stack k bytes)
+  room-alike = permitted-too k bytes (bytes ++ behind) (ok .is) (omega (arith, sized (ok .is) .enough, length-append bytes behind)) ∙ sym (ok .is)
 
   pub behind-alike : Alike k (bytes ++ behind) bytes
   behind-alike = record { permitted = room-alike; voxels = voxel-alike }

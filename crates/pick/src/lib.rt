@@ -1,18 +1,18 @@
 // The pick: what is refused, in order, and the walk.
 ghost use mathlib.Core.Path.{_≡_};
 ghost use Prim.Native.Nat.{_≤_};
-ghost use Rattle.rules.specs.Walk.{sign, signs, unlessLevel, levelled, normal};
+ghost use Rattle.rules.specs.Walk.{sign, signs, unlessLevel, levelled, normal, laid};
 ghost use Rattle.rules.specs.Pick.{WedgePromise, StackPromise};
 ghost use Rattle.laws.specs.Ranges.{Bounded};
-ghost use Rattle.solid.specs.Asks.{Permitted};
+ghost use Rattle.solid.specs.Asks.{PermittedSolid};
 ghost use Rattle.laws.specs.Frames.{Signs};
-ghost use Rattle.falls.specs.Scene.{Ready};
 ghost use Rattle.round.specs.Round.{Sound};
-ghost use Rattle.pick.specs.Pick.{layTriangle, EndedIn, RoundedIn, BegunIn, Placed, Picked};
+ghost use Rattle.pick.specs.Pick.{EndGives, PlacesJudged, InputsJudged, Picked};
 use falls::Scene;
 use rules::Accepted;
 use rules::Levels;
 use rules::Pick;
+use rules::Refused;
 use rules::Solid;
 use rules::Stack;
 use rules::Triangle;
@@ -20,6 +20,12 @@ use rules::Vector;
 use rules::Wedge;
 use start::Start;
 use walk::Walked;
+
+// The scene to walk in, or a refusal 1 to 4.
+enum Fit {
+    Scene(Scene),
+    Refused(Refused),
+}
 
 // ---- frames
 
@@ -56,7 +62,7 @@ fn normal_of(m: Triangle) -> Vector
 
 fn lay_triangle(s: Vector, m: Triangle) -> Triangle
     requires { ⌜ Sound m × Bounded 1 s ⌝ }
-    ensures { λ r. ⌜ r ≡ layTriangle s m ⌝ }
+    ensures { λ r. ⌜ r ≡ laid s m ⌝ }
 {
     let m0 = m.m0;
     let m1 = m.m1;
@@ -87,7 +93,7 @@ fn level_out(level: Levels, n: Vector) -> Vector
 // No pair falls.
 fn end_walk(scene: Scene, level: Levels, m: Triangle, steps: u32, looks: u32) -> Pick
     requires { ⌜ Sound m × Signs (scene .signs) ⌝ }
-    ensures { λ r. ⌜ EndedIn scene level m steps looks r ⌝ }
+    ensures { λ r. ⌜ EndGives scene level m steps looks r ⌝ }
 {
     let s = scene.signs;
     let q = scene.apex;
@@ -110,71 +116,72 @@ fn end_walk(scene: Scene, level: Levels, m: Triangle, steps: u32, looks: u32) ->
     }
 }
 
-// From a start with these level axes, after so many looks.
-fn ask_rounds(scene: Scene, bytes: &[u8], level: Levels, looks: u32) -> Pick
-    requires { ⌜ Ready scene (now bytes) × (looks ≤ 4000) ⌝ }
-    ensures { λ r. ⌜ RoundedIn scene (now (bytes .entry)) level looks r ⌝ }
-{
-    let w = walk::walk_on(scene, bytes, level, looks);
-    match w {
-        Walked::Ended(m, steps, k) => end_walk(scene, level, m, steps, k),
-        Walked::Refused(r) => Pick::Refused(r),
-    }
-}
-
-// ---- the pick
-
-fn begin(scene: Scene, bytes: &[u8], p: Vector) -> Pick
-    requires { ⌜ Ready scene (now bytes) ⌝ }
-    ensures { λ r. ⌜ BegunIn scene (now (bytes .entry)) p r ⌝ }
-{
-    let b = start::start_at(scene, bytes, p);
-    match b {
-        Start::Begun(level, n) => ask_rounds(scene, bytes, level, n),
-        Start::Refused(r) => Pick::Refused(r),
-    }
-}
+// ---- judging the inputs
 
 // p is judged before q is formed.
-fn place(solid: Solid, bytes: &[u8], p: Vector, frame: u32, reach: u32) -> Pick
-    requires { ⌜ Permitted solid (now bytes) × (reach ≤ 256) ⌝ }
-    ensures { λ r. ⌜ Placed solid (now (bytes .entry)) p frame reach r ⌝ }
+fn judge_places(solid: Solid, bytes: &[u8], p: Vector, frame: u32, reach: u32) -> Fit
+    requires { ⌜ PermittedSolid solid (now bytes) × (reach ≤ 256) ⌝ }
+    ensures { λ r. ⌜ PlacesJudged solid (now (bytes .entry)) p frame reach r ⌝ }
 {
     if solid::is_inside(solid, p) {
         let s = signs_of(frame);
         let q = space::add(p, s);
         if solid::is_inside(solid, q) {
-            let scene = Scene {
+            Fit::Scene(Scene {
                 solid: solid,
                 apex: q,
                 signs: s,
                 reach: reach,
-            };
-            begin(scene, bytes, p)
+            })
         } else {
-            Pick::Refused(walk::refusal(4, q, 0, 0))
+            Fit::Refused(walk::refusal(4, q, 0, 0))
         }
     } else {
-        Pick::Refused(walk::refusal(4, p, 0, 0))
+        Fit::Refused(walk::refusal(4, p, 0, 0))
     }
 }
 
+fn judge(solid: Solid, bytes: &[u8], p: Vector, frame: i32, reach: i32) -> Fit
+    ensures { λ r. ⌜ InputsJudged solid (now (bytes .entry)) p frame reach r ⌝ }
+{
+    let origin = Vector { x: 0, y: 0, z: 0 };
+    if range::is_between(1, reach, 256) {
+        if range::is_between(0, frame, 7) {
+            if solid::is_permitted(solid, bytes) {
+                judge_places(solid, bytes, p, frame as u32, reach as u32)
+            } else {
+                Fit::Refused(walk::refusal(3, origin, 0, 0))
+            }
+        } else {
+            Fit::Refused(walk::refusal(2, origin, 0, 0))
+        }
+    } else {
+        Fit::Refused(walk::refusal(1, origin, 0, 0))
+    }
+}
+
+// ---- the pick
+
+// The inputs are judged, then the start, the rounds and the end.
 fn pick_solid(solid: Solid, bytes: &[u8], p: Vector, frame: i32, reach: i32) -> Pick
     ensures { λ r. ⌜ Picked solid (now (bytes .entry)) p frame reach r ⌝ }
 {
-    let origin = Vector { x: 0, y: 0, z: 0 };
-    if solid::is_between(1, reach, 256) {
-        if solid::is_between(0, frame, 7) {
-            if solid::is_permitted(solid, bytes) {
-                place(solid, bytes, p, frame as u32, reach as u32)
-            } else {
-                Pick::Refused(walk::refusal(3, origin, 0, 0))
+    let fit = judge(solid, bytes, p, frame, reach);
+    match fit {
+        Fit::Refused(r) => Pick::Refused(r),
+        Fit::Scene(scene) => {
+            let begun = start::start_at(scene, bytes, p);
+            match begun {
+                Start::Refused(r) => Pick::Refused(r),
+                Start::Begun(level, n) => {
+                    let walked = walk::walk_on(scene, bytes, level, n);
+                    match walked {
+                        Walked::Refused(r) => Pick::Refused(r),
+                        Walked::Ended(m, steps, k) => end_walk(scene, level, m, steps, k),
+                    }
+                }
             }
-        } else {
-            Pick::Refused(walk::refusal(2, origin, 0, 0))
         }
-    } else {
-        Pick::Refused(walk::refusal(1, origin, 0, 0))
     }
 }
 

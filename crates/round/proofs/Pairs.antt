@@ -12,7 +12,7 @@ use Rattle.laws.specs.Frames.{Signs}
 use Rattle.laws.specs.Triples.{All, all-first, all-second}
 use Rattle.laws.specs.Ranges.{Bounded}
 use Rattle.space.specs.Bounds.{bounded-is, bounded-wider, bounded-sum, bounded-difference, bounded-lay}
-use Rattle.falls.proofs.Scenes.{signs-bounded}
+use Rattle.falls.specs.Sizes.{signs-bounded}
 use Rattle.round.specs.Round.{Sound, Weighs}
 
 module _ {m : Triangle} (h : Sound m) where

@@ -6,7 +6,6 @@ use Prim.Native.Nat.{ℕ, _+_, _≤_}
 use lib.IntN.{pos}
 use lib.Signed.{ltZ}
 use Rattle.rules.specs.declared.Vector.{Vector}
-use Rattle.rules.specs.declared.Look.{Look}
 use Rattle.rules.specs.declared.Levels.{Levels}
 use Rattle.rules.specs.declared.Triangle.{Triangle}
 use Rattle.rules.specs.declared.Pair.{Pair}
@@ -14,14 +13,12 @@ use Rattle.rules.specs.declared.Pair.the-variants.{P01, P02, P10, P12, P20, P21
 use Rattle.rules.specs.declared.Choice.{Choice}
 use Rattle.rules.specs.declared.Choice.the-variants.{Nothing, Chosen}
 use Rattle.rules.specs.Vectors.{_⊕_, _⊖_, sphere}
-use Rattle.rules.specs.Solids.{look}
 use Rattle.rules.specs.Asked.{Asked, answered, _>>=_}
-use Rattle.rules.specs.Walk.{pairs, only, takesPart, way, powers, falling, round}
+use Rattle.rules.specs.Walk.{pairs, only, takesPart, way, Probe, falling, round}
 use Rattle.laws.specs.Triples.{detOf}
 use Rattle.laws.specs.Choosing.{better, best}
 use Rattle.laws.specs.Ranges.{Bounded}
-use Rattle.falls.specs.declared.Scene.{Scene}
-use Rattle.falls.specs.Tally.{Tally, yes, no, tally, Gives}
+use Rattle.laws.specs.Tally.{Tally, yes, no, tally, Gives}
 use Rattle.round.specs.declared.Best.{Best}
 use Rattle.round.specs.declared.Round.{Round}
 use Rattle.round.specs.declared.Round.the-variants.{Asked as IsAsked, Stopped}
@@ -33,13 +30,13 @@ pub record Sound (m : Triangle) : Type 0 where
   pub in2 : Bounded 1023 (m .m2)
   pub unimodular : detOf m ≡ pos 1
 
-abbrev pub told : Round → Tally Vector Choice
-told (IsAsked k n) = yes (k .choice) n
-told (Stopped p n) = no p n
+abbrev pub roundTally : Round → Tally Vector Choice
+roundTally (IsAsked k n) = yes (k .choice) n
+roundTally (Stopped p n) = no p n
 
-abbrev pub looksOf : Round → ℕ
-looksOf (IsAsked k n) = n
-looksOf (Stopped p n) = n
+abbrev pub roundLooks : Round → ℕ
+roundLooks (IsAsked k n) = n
+roundLooks (Stopped p n) = n
 
 abbrev pub bestOf : Choice → Vector → Best
 bestOf c r = record { choice = c; row = r }
@@ -70,52 +67,42 @@ pub record Preferred (m : Triangle) (before : Best) (y : Pair) (r : Best) : Type
   pub weighed : Weighs m (r .choice) (r .row)
 
 -- the pairs in their order
-abbrev pub after : Pair → Choice
-after P01 = Chosen P02
-after P02 = Chosen P10
-after P10 = Chosen P12
-after P12 = Chosen P20
-after P20 = Chosen P21
-after P21 = Nothing
+abbrev pub pairAfter : Pair → Choice
+pairAfter P01 = Chosen P02
+pairAfter P02 = Chosen P10
+pairAfter P10 = Chosen P12
+pairAfter P12 = Chosen P20
+pairAfter P20 = Chosen P21
+pairAfter P21 = Nothing
 
 -- the pairs that take part
 abbrev pub taking : Levels → List Pair → List Pair
 taking level ps = only (takesPart level) ps
 
-module _ (look : Vector → Look) (q s : Vector) (reach : ℕ) (m : Triangle) where
-  -- the pairs ps, after those of which c is the best
+module _ (c : Probe) (m : Triangle) where
+  -- the pairs ps, after those of which b is the best
   unfoldable pub weighing : List Pair → Choice → Asked Vector Choice
-  weighing ps c = falling look q s (powers reach) m ps >>= λ fs. answered (best m c fs) []
+  weighing ps b = falling c m ps >>= λ fs. answered (best m b fs) []
 
   -- what the rest of the round, the pairs ps, gives
   abbrev pub rest : List Pair → Tally Vector Choice → Tally Vector Choice
-  rest ps (yes c n) = tally n (weighing ps c)
+  rest ps (yes b n) = tally n (weighing ps b)
   rest ps (no p n) = no p n
 
   -- with the pair x asked, when k was the best and n looks were made, the rest gives what it gave from before
   pub record WayAsked (x : Pair) (k : Best) (n : ℕ) (r : Round) : Type 0 where
-    pub is : (ps : List Pair) → rest ps (told r) ≡ rest (x ∷ ps) (yes (k .choice) n)
+    pub is : (ps : List Pair) → rest ps (roundTally r) ≡ rest (x ∷ ps) (yes (k .choice) n)
     pub weighed : Weighed m r
-    pub few : looksOf r ≤ n + 512
+    pub few : roundLooks r ≤ n + 512
 
   module _ (level : Levels) where
     -- the same, with the pair x asked if it takes part
     pub record PairAsked (x : Pair) (before r : Round) : Type 0 where
-      pub is : (ps : List Pair) → rest (taking level ps) (told r) ≡ rest (taking level (x ∷ ps)) (told before)
+      pub is : (ps : List Pair) → rest (taking level ps) (roundTally r) ≡ rest (taking level (x ∷ ps)) (roundTally before)
       pub weighed : Weighed m r
-      pub few : looksOf r ≤ looksOf before + 512
+      pub few : roundLooks r ≤ roundLooks before + 512
 
     pub record RoundAsked (looks : ℕ) (r : Round) : Type 0 where
-      pub gives : Gives looks (round look q s (powers reach) (taking level pairs) m) (told r)
+      pub gives : Gives looks (round c (taking level pairs) m) (roundTally r)
       pub weighed : Weighed m r
-      pub few : looksOf r ≤ looks + 3072
-
--- in a scene, with the bytes lent
-abbrev pub WayAskedIn : Scene → List ℕ → Triangle → Pair → Best → ℕ → Round → Type 0
-WayAskedIn v bytes m x k n r = WayAsked (look (v .solid) bytes) (v .apex) (v .signs) (v .reach) m x k n r
-
-abbrev pub PairAskedIn : Scene → List ℕ → Levels → Triangle → Pair → Round → Round → Type 0
-PairAskedIn v bytes level m x before r = PairAsked (look (v .solid) bytes) (v .apex) (v .signs) (v .reach) m level x before r
-
-abbrev pub RoundAskedIn : Scene → List ℕ → Levels → Triangle → ℕ → Round → Type 0
-RoundAskedIn v bytes level m looks r = RoundAsked (look (v .solid) bytes) (v .apex) (v .signs) (v .reach) m level looks r
+      pub few : roundLooks r ≤ looks + 3072

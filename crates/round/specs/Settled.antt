@@ -1,25 +1,24 @@
--- What `ask_round` ensures settles its answer: the choice is told, and the best pair's row is settled by the choice.
+-- What `ask_round` ensures settles its answer: the choice is roundTally, and the best pair's row is settled by the choice.
 use mathlib.Core.Path.{_≡_, refl, sym, ap}
 use Prim.Native.Nat.{ℕ}
 use Rattle.rules.specs.declared.Vector.{Vector}
-use Rattle.rules.specs.declared.Look.{Look}
 use Rattle.rules.specs.declared.Levels.{Levels}
 use Rattle.rules.specs.declared.Triangle.{Triangle}
 use Rattle.rules.specs.declared.Choice.{Choice}
-use Rattle.falls.specs.Tally.{Tally, yes, no}
-use Rattle.falls.specs.Settled.{told-settled}
+use Rattle.rules.specs.Walk.{Probe}
+use Rattle.laws.specs.Tally.{Tally, yes, no, gives-settled}
 use Rattle.round.specs.declared.Round.{Round}
 use Rattle.round.specs.declared.Round.the-variants.{Asked as IsAsked, Stopped}
-use Rattle.round.specs.Round.{told, bestOf, bestRow, Weighed, RoundAsked}
+use Rattle.round.specs.Round.{roundTally, bestOf, bestRow, Weighed, RoundAsked}
 
 made : Triangle → Tally Vector Choice → Round
 made m (yes c n) = IsAsked (bestOf c (bestRow m c)) n
 made m (no p n) = Stopped p n
 
-made-again : (m : Triangle) (r : Round) → Weighed m r → made m (told r) ≡ r
+made-again : (m : Triangle) (r : Round) → Weighed m r → made m (roundTally r) ≡ r
 unfolding made
 made-again m (IsAsked k n) h = ap (λ (row : Vector). IsAsked (bestOf (k .choice) row) n) (sym h)
 made-again m (Stopped p n) h = refl
 
-pub round-asked-settled : {look : Vector → Look} {q s : Vector} {reach : ℕ} {m : Triangle} {level : Levels} {looks : ℕ} {r t : Round} → RoundAsked look q s reach m level looks r → RoundAsked look q s reach m level looks t → r ≡ t
-round-asked-settled {m = m} {r = r} {t} h k = told-settled (made m) (made-again m r (h .weighed)) (made-again m t (k .weighed)) (h .gives) (k .gives)
+pub round-asked-settled : {c : Probe} {m : Triangle} {level : Levels} {looks : ℕ} {r t : Round} → RoundAsked c m level looks r → RoundAsked c m level looks t → r ≡ t
+round-asked-settled {m = m} {r = r} {t} h k = gives-settled (made m) (made-again m r (h .weighed)) (made-again m t (k .weighed)) (h .gives) (k .gives)

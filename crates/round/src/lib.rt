@@ -1,10 +1,10 @@
 // One round: the pairs that take part, and the choice.
 ghost use mathlib.Core.Path.{_≡_};
-ghost use Prim.Native.Nat.{_≤_};
 ghost use Rattle.rules.specs.Walk.{takesPart, triangle, first, second, way, with, step};
 ghost use Rattle.laws.specs.Ranges.{Bounded};
-ghost use Rattle.falls.specs.Scene.{Ready};
-ghost use Rattle.round.specs.Round.{Sound, nearer, Weighs, Weighed, Preferred, after, looksOf, WayAskedIn, PairAskedIn, RoundAskedIn};
+ghost use Rattle.laws.specs.Tally.{Countable};
+ghost use Rattle.falls.specs.Scene.{probeOf, Ready};
+ghost use Rattle.round.specs.Round.{Sound, nearer, Weighs, Weighed, Preferred, pairAfter, roundLooks, WayAsked, PairAsked, RoundAsked};
 use falls::Falls;
 use falls::Scene;
 use rules::Choice;
@@ -159,8 +159,8 @@ fn prefer(m: Triangle, sofar: Best, y: Pair, w: Vector) -> Best
 
 // A pair that takes part, after those of which `best` is the best.
 fn ask_way(scene: Scene, bytes: &[u8], m: Triangle, x: Pair, best: Best, looks: u32) -> Round
-    requires { ⌜ Ready scene (now bytes) × Sound m × Weighs m (best .choice) (best .row) × (looks ≤ 1500000) ⌝ }
-    ensures { λ r. ⌜ WayAskedIn scene (now (bytes .entry)) m x best looks r ⌝ }
+    requires { ⌜ Ready scene (now bytes) × Sound m × Weighs m (best .choice) (best .row) × Countable 1 looks ⌝ }
+    ensures { λ r. ⌜ WayAsked (probeOf scene (now (bytes .entry))) m x best looks r ⌝ }
 {
     let s = scene.signs;
     let w = way_of(m, x);
@@ -175,8 +175,8 @@ fn ask_way(scene: Scene, bytes: &[u8], m: Triangle, x: Pair, best: Best, looks: 
 
 // One pair more, asked if it takes part.
 fn ask_pair(scene: Scene, bytes: &[u8], level: Levels, m: Triangle, x: Pair, sofar: Round) -> Round
-    requires { ⌜ Ready scene (now bytes) × Sound m × Weighed m sofar × (looksOf sofar ≤ 1500000) ⌝ }
-    ensures { λ r. ⌜ PairAskedIn scene (now (bytes .entry)) level m x sofar r ⌝ }
+    requires { ⌜ Ready scene (now bytes) × Sound m × Weighed m sofar × Countable 1 (roundLooks sofar) ⌝ }
+    ensures { λ r. ⌜ PairAsked (probeOf scene (now (bytes .entry))) m level x sofar r ⌝ }
 {
     match sofar {
         Round::Stopped(p, n) => Round::Stopped(p, n),
@@ -192,7 +192,7 @@ fn ask_pair(scene: Scene, bytes: &[u8], level: Levels, m: Triangle, x: Pair, sof
 
 // The pairs in their order: after the last, none.
 fn pair_after(x: Pair) -> Choice
-    ensures { λ r. ⌜ r ≡ after x ⌝ }
+    ensures { λ r. ⌜ r ≡ pairAfter x ⌝ }
 {
     match x {
         Pair::P01 => Choice::Chosen(Pair::P02),
@@ -206,8 +206,8 @@ fn pair_after(x: Pair) -> Choice
 
 // All pairs that take part, even after one has fallen. One call in a loop and not six: so the question is compiled in place, which saves about two fifths of a pick's time.
 pub fn ask_round(scene: Scene, bytes: &[u8], level: Levels, m: Triangle, looks: u32) -> Round
-    requires { ⌜ Ready scene (now bytes) × Sound m × (looks ≤ 1000000) ⌝ }
-    ensures { λ r. ⌜ RoundAskedIn scene (now (bytes .entry)) level m looks r ⌝ }
+    requires { ⌜ Ready scene (now bytes) × Sound m × Countable 6 looks ⌝ }
+    ensures { λ r. ⌜ RoundAsked (probeOf scene (now (bytes .entry))) m level looks r ⌝ }
 {
     let m0 = m.m0;
     let none = Best {

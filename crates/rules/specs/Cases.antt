@@ -19,8 +19,8 @@ use Rattle.rules.specs.declared.Display.the-variants.{Lit}
 use Rattle.rules.specs.Vectors.{vector, _⊕_, _⊖_, minus, scale, dot, cross, det, sphere, lay, size}
 use Rattle.rules.specs.Solids.{between, rowBytes, sliceBytes, permittedWedge, filledWedge, inBox, look}
 use Rattle.rules.specs.Asked.{after, _>>=_}
-use Rattle.rules.specs.Walk.{ensure, sign, signs, seen, asked, powersFrom, powers, triangle, normal, allLevel, keep, only, remaining, takesPart, levelled, determinant, inside, anyInside, firstFree, choice, lookAt, falls, isLevel, axes, falling, round, walk, found, start, rounds}
-use Rattle.rules.specs.Pick.{isInside, pick, answer, pickOf}
+use Rattle.rules.specs.Walk.{ensure, sign, signs, seen, asked, powersFrom, powers, triangle, normal, allLevel, keep, only, remaining, takesPart, levelled, determinant, inside, anyInside, firstFree, choice, lookAt, fallsAt, facing, isLevel, axes, start, falling, round, walk, rounds, found, end}
+use Rattle.rules.specs.Pick.{isInside, placing, judging, pick, answer, pickOf}
 use Rattle.rules.specs.P4.{Judged, good, wrong, _>>=_ as _onward_, judge, stands, isEnd, isWhite, commentAt, white, mix, digitsAt, fieldAt, headerAt, padding, cut, row, rows, imageAt, imagesAt, sizes, Contents, contents}
 use Rattle.rules.specs.Decimals.{isDigit, areDigits, value, figure, digits}
 use Rattle.rules.specs.Display.{largest, sizeOf, component, permittedNormal, light, display}
@@ -31,46 +31,46 @@ data Case : Type 0 where
   prints corners reads : String → Case
   shows : ℤ → ℤ → ℤ → Case
 
-data Told : Type 0 where
-  text : List ℕ → Told
-  vectors : Triangle → Told
-  judged : Judged Contents → Told
-  shown : Display → Told
-  none : Told
+data Result : Type 0 where
+  text : List ℕ → Result
+  vectors : Triangle → Result
+  judged : Judged Contents → Result
+  shown : Display → Result
+  none : Result
 
 -- the bytes of a text
 bytes : String → List ℕ
 bytes nothing = []
 bytes (c then more) = code c ∷ bytes more
 
-vectorsOf : Pick → Told
+vectorsOf : Pick → Result
 vectorsOf (Accepted a) = vectors (a .triangle)
 vectorsOf (Refused r) = none
 
-cornersOf : Line → Told
+cornersOf : Line → Result
 cornersOf (Asks q) = vectorsOf (pickOf (IsWedge (q .wedge)) [] (q .p) (q .frame) (q .reach))
 cornersOf OtherForm = none
 
-run : Case → Told
+run : Case → Result
 run (prints input) = text (session (bytes input))
 run (corners line) = cornersOf (question (bytes line))
 run (reads input) = judged (contents (bytes input))
 run (shows x y z) = shown (display x y z)
 
 -- what the list expects: a text, the vectors (1,0,0), (-1,1,0), (-2,-1,1), a stack's sizes and rows or a refusal, or sizes over 32768
-says : String → Told
+says : String → Result
 says output = text (bytes output)
 
-ends : Told
+ends : Result
 ends = vectors (triangle (vector (pos 1) (pos 0) (pos 0)) (vector (negsuc 0) (pos 1) (pos 0)) (vector (negsuc 1) (negsuc 0) (pos 1)))
 
-holds : ℕ → ℕ → ℕ → List ℕ → Told
+holds : ℕ → ℕ → ℕ → List ℕ → Result
 holds width height depth rows = judged (good (record { stack = sizes width height depth; bytes = rows }))
 
-refuses : ℕ → ℕ → Told
+refuses : ℕ → ℕ → Result
 refuses number place = judged (wrong number place)
 
-over : ℕ → ℕ → ℕ → Told
+over : ℕ → ℕ → ℕ → Result
 over a b c = shown (Lit record { x = rounded binary32 false a 32768; y = rounded binary32 false b 32768; z = rounded binary32 false c 32768 })
 
 worked-cases :
@@ -179,5 +179,5 @@ worked-cases :
     ∷ refuses 25 10
     ∷ holds 3 2 2 (160 ∷ 64 ∷ 32 ∷ 192 ∷ [])
     ∷ []
-unfolding run bytes cornersOf vectorsOf says ends holds refuses over _⊕_ _⊖_ minus scale dot cross det sphere lay size between permittedWedge filledWedge inBox look after _>>=_ ensure sign signs seen asked powersFrom powers normal allLevel keep only remaining takesPart levelled determinant inside anyInside firstFree choice lookAt falls isLevel axes falling round walk found start rounds isInside pick answer pickOf isDigit areDigits value figure digits parts fewDigits within32 signed number next onlyThese question three counts toldAccepted toldRefused told reply replies session largest sizeOf component permittedNormal light display rowBytes sliceBytes _onward_ judge stands isEnd isWhite commentAt white mix digitsAt fieldAt headerAt padding cut row rows imageAt imagesAt contents
+unfolding run bytes cornersOf vectorsOf says ends holds refuses over _⊕_ _⊖_ minus scale dot cross det sphere lay size between permittedWedge filledWedge inBox look after _>>=_ ensure sign signs seen asked powersFrom powers normal allLevel keep only remaining takesPart levelled determinant inside anyInside firstFree choice lookAt fallsAt facing isLevel axes start falling round walk rounds found end isInside placing judging pick answer pickOf isDigit areDigits value figure digits parts fewDigits within32 signed number next onlyThese question three counts toldAccepted toldRefused told reply replies session largest sizeOf component permittedNormal light display rowBytes sliceBytes _onward_ judge stands isEnd isWhite commentAt white mix digitsAt fieldAt headerAt padding cut row rows imageAt imagesAt contents
 worked-cases = refl

@@ -13,35 +13,61 @@ use Rattle.rules.specs.declared.Solid.{Solid}
 use Rattle.rules.specs.declared.Solid.the-variants.{Wedge as IsWedge, Stack as IsStack}
 use Rattle.rules.specs.declared.Look.{Look}
 use Rattle.rules.specs.declared.Look.the-variants.{Filled, Empty, Outside}
+use Rattle.rules.specs.declared.Accepted.{Accepted as AcceptedPick}
+use Rattle.rules.specs.declared.Refused.{Refused as RefusedPick}
 use Rattle.rules.specs.declared.Pick.{Pick}
 use Rattle.rules.specs.declared.Pick.the-variants.{Accepted, Refused}
 use Rattle.rules.specs.Vectors.{_⊕_, origin}
 use Rattle.rules.specs.Solids.{between, permitted, look}
 use Rattle.rules.specs.Asked.{Asked, answered, refused, _>>=_, _>>_}
-use Rattle.rules.specs.Walk.{Stop, stop, ensure, signs, Found, start, rounds}
+use Rattle.rules.specs.Walk.{Stop, stop, ensure, signs, powers, Found, Probe, start, rounds, end}
 
 unfoldable pub isInside : Look → Bool
 isInside Filled = true
 isInside Empty = true
 isInside Outside = false
 
+-- what the walk is about
+abbrev pub probe : (Vector → Look) → Vector → ℤ → ℤ → Probe
+probe look p frame reach = let s = signs (natAbs frame) in record { look = look; apex = p ⊕ s; signs = s; powers = powers (natAbs reach) }
+
+-- refusal 4: p outside the box, else q outside it
+unfoldable pub placing : Probe → Vector → Asked Stop (Unit {0})
+placing c p = do
+  ensure (isInside (c .look p)) (stop 4 p 0)
+  ensure (isInside (c .look (c .apex))) (stop 4 (c .apex) 0)
+
 -- over any solid: whether it is permitted, and its look
-unfoldable pub pick : Bool → (Vector → Look) → Vector → ℤ → ℤ → Asked Stop Found
-pick permitted look p frame reach =
-    let s = signs (natAbs frame) in
-    let q = p ⊕ s in do
-      ensure (between (pos 1) reach (pos 256)) (stop 1 origin 0)
-      ensure (between (pos 0) frame (pos 7)) (stop 2 origin 0)
-      ensure permitted (stop 3 origin 0)
-      ensure (isInside (look p)) (stop 4 p 0)
-      ensure (isInside (look q)) (stop 4 q 0)
-      v ← start look s p q (natAbs reach)
-      rounds look s q (natAbs reach) v
+module _ (permitted : Bool) (look : Vector → Look) (p : Vector) (frame reach : ℤ) where
+  abbrev c : Probe
+  c = probe look p frame reach
+
+  -- the inputs are judged
+  unfoldable pub judging : Asked Stop (Unit {0})
+  judging = do
+    ensure (between (pos 1) reach (pos 256)) (stop 1 origin 0)
+    ensure (between (pos 0) frame (pos 7)) (stop 2 origin 0)
+    ensure permitted (stop 3 origin 0)
+    placing c p
+
+  -- then the start, the rounds and the end
+  unfoldable pub pick : Asked Stop Found
+  pick = do
+    judging
+    v ← start c p
+    e ← rounds c (natAbs reach) v
+    end c (natAbs reach) v e
 
 -- the answer's two cases: accepted with its record, or refused with number, place and counts
+abbrev pub accepted : Found → ℕ → AcceptedPick
+accepted f looks = record { normal = f .normal; triangle = f .triangle; apex = f .apex; steps = f .steps; looks = looks }
+
+abbrev pub refusal : Stop → ℕ → RefusedPick
+refusal r looks = record { number = r .number; place = r .place; steps = r .steps; looks = looks }
+
 unfoldable pub answer : Asked Stop Found → Pick
-answer (answered f t) = Accepted record { normal = f .normal; triangle = f .triangle; apex = f .apex; steps = f .steps; looks = length t }
-answer (refused r t) = Refused record { number = r .number; place = r .place; steps = r .steps; looks = length t }
+answer (answered f t) = Accepted (accepted f (length t))
+answer (refused r t) = Refused (refusal r (length t))
 
 -- a pick of a solid with its lent bytes
 unfoldable pub pickOf : Solid → List ℕ → Vector → ℤ → ℤ → Pick

@@ -50,10 +50,13 @@ permittedStack k bytes =
     permittedSize (k .width)
     && (permittedSize (k .height) && (permittedSize (k .depth) && leb (stackBytes k) (length bytes)))
 
--- rows follow y, slices follow z, x is the column; the highest bit leftmost, 1 filled
+-- the place of a voxel's byte: rows follow y, slices follow z, x is the column
+abbrev pub voxelPlace : ℕ → ℕ → ℕ → ℕ → ℕ → ℕ
+voxelPlace width height x y z = (z * height + y) * rowBytes width + x / 8
+
+-- the highest bit leftmost, 1 filled
 unfoldable pub voxel : ℕ → ℕ → List ℕ → ℕ → ℕ → ℕ → Bool
-voxel width height bytes x y z =
-    eqb (getD bytes ((z * height + y) * rowBytes width + x / 8) 0 / 2 ^ (7 - x % 8) % 2) 1
+voxel width height bytes x y z = eqb (getD bytes (voxelPlace width height x y z) 0 / 2 ^ (7 - x % 8) % 2) 1
 
 unfoldable pub filledStack : Stack → List ℕ → Vector → Bool
 filledStack k bytes p =

@@ -194,67 +194,24 @@ firstFree m falling (x ∷ xs) = elim (anyInside m x falling) [ false ↦ Chosen
 unfoldable pub choice : Triangle → List Pair → Choice
 choice m falling = firstFree m falling falling
 
--- the walk of one solid
+-- ---- the questions of one solid
 module _ (look : Vector → Look) where
   unfoldable pub lookAt : Vector → Asked Vector Bool
   lookAt p = seen (look p) p
 
-  -- about the apex q
-  module _ (q : Vector) where
-    -- a vector u, laid in, falls if q + l·u is filled for some power l. Powers are looked at upward and asking stops at the first filled one
-    unfoldable pub falls : Vector → List ℕ → Asked Vector Bool
-    falls u [] = answered false []
-    falls u (l ∷ ls) = do
-      f ← lookAt (q ⊕ scale (pos l) u)
-      elim f [ true ↦ answered true [] | false ↦ falls u ls ]
+  -- a vector u, laid in, falls if q + l·u is filled for some power l. Powers are looked at upward and asking stops at the first filled one
+  unfoldable pub fallsAt : Vector → Vector → List ℕ → Asked Vector Bool
+  fallsAt q u [] = answered false []
+  fallsAt q u (l ∷ ls) = do
+    f ← lookAt (q ⊕ scale (pos l) u)
+    elim f [ true ↦ answered true [] | false ↦ fallsAt q u ls ]
 
-    -- in the frame of the signs s, with the powers ls
-    module _ (s : Vector) (ls : List ℕ) where
-      -- 2. ask whether minus an axis's unit vector falls. When it doesn't, its opposite is asked too: refusal 7 if that falls, else the axis is level
-      unfoldable pub isLevel : Vector → Asked Stop Bool
-      isLevel e = do
-        f ← asked 0 (falls (lay s (minus e)) ls)
-        elim f [
-          | true ↦ answered false []
-          | false ↦ do
-            g ← asked 0 (falls (lay s e) ls)
-            ensure (not g) (stop 7 (q ⊕ lay s (minus e)) 0)
-            answered true []
-        ]
-
-      -- for axis 0, 1, 2; refusal 7, with the place as for axis 0, if all three are level
-      unfoldable pub axes : Asked Stop Levels
-      axes = do
-        a ← isLevel (unit axis0)
-        b ← isLevel (unit axis1)
-        c ← isLevel (unit axis2)
-        ensure (not (allLevel (levels a b c))) (stop 7 (q ⊕ lay s (minus (unit axis0))) 0)
-        answered (levels a b c) []
-
-      -- 4. all pairs are asked, even after one has fallen
-      unfoldable pub falling : Triangle → List Pair → Asked Vector (List Pair)
-      falling m [] = answered [] []
-      falling m (x ∷ xs) = do
-        f ← falls (lay s (way m x)) ls
-        r ← falling m xs
-        answered (keep f x r) []
-
-      -- with the pairs ps, those that take part
-      module _ (ps : List Pair) where
-        -- a round: the pair to step by, if one falls
-        unfoldable pub round : Triangle → Asked Vector Choice
-        round m = do
-          fs ← falling m ps
-          answered (choice m fs) []
-
-        -- 5, 6. the rounds after n steps, with `left` steps more allowed
-        unfoldable pub walk : ℕ → ℕ → Triangle → Asked Stop (Triangle × ℕ)
-        walk zero n m = do
-          c ← asked n (round m)
-          elim c [ Nothing ↦ answered (m, n) [] | Chosen x ↦ refused (stop 9 q n) [] ]
-        walk (suc left) n m = do
-          c ← asked n (round m)
-          elim c [ Nothing ↦ answered (m, n) [] | Chosen x ↦ walk left (suc n) (step m x) ]
+-- ---- what a walk is about: a solid's look, the apex q, the signs s of the frame and the powers
+pub record Probe : Type 0 where
+  pub look : Vector → Look
+  pub apex : Vector
+  pub signs : Vector
+  pub powers : List ℕ
 
 -- what the walk's end returns, laid into the box
 pub record Found : Type 0 where
@@ -263,27 +220,90 @@ pub record Found : Type 0 where
   pub apex : Vector
   pub steps : ℕ
 
-unfoldable pub found : Vector → Vector → Levels → Triangle × ℕ → Found
-found s q v e = record {
-  normal = lay s (levelled v (normal (e .0)));
-  triangle = triangle (lay s (e .0 .m0)) (lay s (e .0 .m1)) (lay s (e .0 .m2));
-  apex = q;
-  steps = e .1;
-}
+-- a triangle laid into the box, or back out of it
+abbrev pub laid : Vector → Triangle → Triangle
+laid s m = triangle (lay s (m .m0)) (lay s (m .m1)) (lay s (m .m2))
 
--- 1. look at p, then, if p is filled, q; 2. the axes
-unfoldable pub start : (Vector → Look) → Vector → Vector → Vector → ℕ → Asked Stop Levels
-start look s p q R = do
-  f ← asked 0 (lookAt look p)
-  ensure f (stop 5 p 0)
-  g ← asked 0 (lookAt look q)
-  ensure (not g) (stop 6 q 0)
-  axes look q s (powers R)
+module _ (c : Probe) where
+  abbrev q : Vector
+  q = c .apex
 
--- 3. begin with the unit vectors and zero steps; as many steps are allowed as the reach less the number of remaining axes, none if that is below zero;
--- refusal 10 at the end
-unfoldable pub rounds : (Vector → Look) → Vector → Vector → ℕ → Levels → Asked Stop Found
-rounds look s q R v = do
-  e ← walk look q s (powers R) (only (takesPart v) pairs) (R - length (remaining v)) 0 units
-  ensure (leb (size (levelled v (normal (e .0)))) R) (stop 10 q (e .1))
-  answered (found s q v e) []
+  abbrev s : Vector
+  s = c .signs
+
+  abbrev pub falls : Vector → Asked Vector Bool
+  falls u = fallsAt (c .look) q u (c .powers)
+
+  -- 1. look at p, then, if p is filled, q
+  unfoldable pub facing : Vector → Asked Stop (Unit {0})
+  facing p = do
+    f ← asked 0 (lookAt (c .look) p)
+    ensure f (stop 5 p 0)
+    g ← asked 0 (lookAt (c .look) q)
+    ensure (not g) (stop 6 q 0)
+
+  -- 2. ask whether minus an axis's unit vector falls. When it doesn't, its opposite is asked too: refusal 7 if that falls, else the axis is level
+  unfoldable pub isLevel : Vector → Asked Stop Bool
+  isLevel e = do
+    f ← asked 0 (falls (lay s (minus e)))
+    elim f [
+      | true ↦ answered false []
+      | false ↦ do
+        g ← asked 0 (falls (lay s e))
+        ensure (not g) (stop 7 (q ⊕ lay s (minus e)) 0)
+        answered true []
+    ]
+
+  -- for axis 0, 1, 2; refusal 7, with the place as for axis 0, if all three are level
+  unfoldable pub axes : Asked Stop Levels
+  axes = do
+    x ← isLevel (unit axis0)
+    y ← isLevel (unit axis1)
+    z ← isLevel (unit axis2)
+    ensure (not (allLevel (levels x y z))) (stop 7 (q ⊕ lay s (minus (unit axis0))) 0)
+    answered (levels x y z) []
+
+  unfoldable pub start : Vector → Asked Stop Levels
+  start p = do
+    facing p
+    axes
+
+  -- 4. all pairs are asked, even after one has fallen
+  unfoldable pub falling : Triangle → List Pair → Asked Vector (List Pair)
+  falling m [] = answered [] []
+  falling m (x ∷ xs) = do
+    f ← falls (lay s (way m x))
+    r ← falling m xs
+    answered (keep f x r) []
+
+  -- with the pairs ps, those that take part
+  module _ (ps : List Pair) where
+    -- a round: the pair to step by, if one falls
+    unfoldable pub round : Triangle → Asked Vector Choice
+    round m = do
+      fs ← falling m ps
+      answered (choice m fs) []
+
+    -- 5, 6. the rounds after n steps, with `left` steps more allowed
+    unfoldable pub walk : ℕ → ℕ → Triangle → Asked Stop (Triangle × ℕ)
+    walk zero n m = do
+      chosen ← asked n (round m)
+      elim chosen [ Nothing ↦ answered (m, n) [] | Chosen x ↦ refused (stop 9 q n) [] ]
+    walk (suc left) n m = do
+      chosen ← asked n (round m)
+      elim chosen [ Nothing ↦ answered (m, n) [] | Chosen x ↦ walk left (suc n) (step m x) ]
+
+  unfoldable pub found : Levels → Triangle × ℕ → Found
+  found v e = record { normal = lay s (levelled v (normal (e .0))); triangle = laid s (e .0); apex = q; steps = e .1 }
+
+  -- with the reach R and the level axes v
+  module _ (R : ℕ) (v : Levels) where
+    -- 3. begin with the unit vectors and zero steps; as many steps are allowed as the reach less the number of remaining axes, none if that is below zero
+    unfoldable pub rounds : Asked Stop (Triangle × ℕ)
+    rounds = walk (only (takesPart v) pairs) (R - length (remaining v)) 0 units
+
+    -- the end: refusal 10, or what was found
+    unfoldable pub end : Triangle × ℕ → Asked Stop Found
+    end e = do
+      ensure (leb (size (levelled v (normal (e .0)))) R) (stop 10 q (e .1))
+      answered (found v e) []

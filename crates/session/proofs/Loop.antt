@@ -9,9 +9,9 @@ use lib.ListN.{length, drop, length-append, length-take, length-drop, drop-of-le
 use lib.Seq.{sets}
 use Rattle.rules.specs.Session.{parts, ifNotEmpty, lines, question, reply, replies}
 use Rattle.text.specs.Puts.{sets-append, put-length}
-use Rattle.line.specs.Reading.{stretch, Found}
+use Rattle.line.specs.Reading.{stretch, PartEnds}
 use Rattle.answer.specs.Wrote.{Wrote}
-use Rattle.session.specs.Printing.{Ready, Replied, Enough}
+use Rattle.session.specs.Printing.{ReplyRoom, Replied, Enough}
 
 pub record Replying (first text out : List ℕ) (at from : ℕ) : Type 0 where
   pub same : length out ≡ length first
@@ -40,7 +40,7 @@ no-lines text from h = ap (parts ifNotEmpty 10 []) (drop-of-length-le text h)
 long : (text : List ℕ) (from end : ℕ) → end ≤ length text → length (stretch text from end) ≡ end - from
 long text from end h = simp (length-take, length-drop) (omega arith)
 
-module _ {text : List ℕ} {from end : ℕ} (F : Found text from 10 end) where
+module _ {text : List ℕ} {from end : ℕ} (F : PartEnds text from 10 end) where
   to-mark : end < length text → Next text from (stretch text from end) (end + 1)
   to-mark h =
       let g = F .from in
@@ -65,7 +65,7 @@ module _ {text : List ℕ} {from end : ℕ} (F : Found text from 10 end) where
       }
 
 module _ {first text out line : List ℕ} {at from behind : ℕ} (R : Replying first text out at from) (N : Next text from line behind) where
-  room-for : Enough first text → Ready out at line
+  room-for : Enough first text → ReplyRoom out at line
   room-for f =
       let a = N .forward in
       let b = N .within in
@@ -98,7 +98,7 @@ module _ {first text out line : List ℕ} {at from behind : ℕ} (R : Replying f
 -- ---- the invariant: where the next line ends is known too
 pub record AtLine (first text out : List ℕ) (at from end : ℕ) : Type 0 where
   pub replying : Replying first text out at from
-  pub found : Found text from 10 end
+  pub line-ends : PartEnds text from 10 end
 
 replying-ends : {first text out : List ℕ} {at from : ℕ} → Replying first text out at from → length text ≤ from → Wrote (5 * length text) first 0 (replies (lines text)) out at
 unfolding replies
@@ -112,26 +112,26 @@ replying-ends {text} {out} {at} {from} R h =
       few = omega arith;
     }
 
-pub at-line-starts : {out text : List ℕ} {end : ℕ} → Found text 0 10 end → AtLine out text out 0 0 end
-at-line-starts F = record { replying = replying-starts; found = F }
+pub at-line-starts : {out text : List ℕ} {end : ℕ} → PartEnds text 0 10 end → AtLine out text out 0 0 end
+at-line-starts F = record { replying = replying-starts; line-ends = F }
 
 module _ {first text out : List ℕ} {at from end : ℕ} (A : AtLine first text out at from end) where
-  pub ready-inner : end < length text → Enough first text → Ready out at (stretch text from end)
-  ready-inner h = room-for (A .replying) (to-mark (A .found) h)
+  pub inner-room : end < length text → Enough first text → ReplyRoom out at (stretch text from end)
+  inner-room h = room-for (A .replying) (to-mark (A .line-ends) h)
 
-  pub at-line-more : {after : List ℕ} {next after-end : ℕ} → end < length text → Replied out at (stretch text from end) after next → Found text (end + 1) 10 after-end
+  pub at-line-more : {after : List ℕ} {next after-end : ℕ} → end < length text → Replied out at (stretch text from end) after next → PartEnds text (end + 1) 10 after-end
       → AtLine first text after next (end + 1) after-end
-  at-line-more h P F = record { replying = onward (A .replying) (to-mark (A .found) h) P; found = F }
+  at-line-more h P F = record { replying = onward (A .replying) (to-mark (A .line-ends) h) P; line-ends = F }
 
   pub ends-empty : from ≡ length text → Wrote (5 * length text) first 0 (replies (lines text)) out at
   ends-empty k = replying-ends (A .replying) (omega arith)
 
   module _ (h : length text ≤ end) (k : from ≢ length text) where
     last : Next text from (stretch text from (length text)) (length text)
-    last = let f = A .found .from in let w = A .found .within in to-end (A .found) h (omega arith)
+    last = let f = A .line-ends .from in let w = A .line-ends .within in to-end (A .line-ends) h (omega arith)
 
-    pub ready-last : Enough first text → Ready out at (stretch text from (length text))
-    ready-last = room-for (A .replying) last
+    pub last-room : Enough first text → ReplyRoom out at (stretch text from (length text))
+    last-room = room-for (A .replying) last
 
     pub ends-last : {after : List ℕ} {next : ℕ} → Replied out at (stretch text from (length text)) after next → Wrote (5 * length text) first 0 (replies (lines text)) after next
     ends-last P = replying-ends (onward (A .replying) last P) (le-refl (length text))

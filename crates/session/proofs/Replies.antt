@@ -16,7 +16,7 @@ use Rattle.rules.specs.Session.{question, told, reply}
 use Rattle.text.specs.Put.{Put}
 use Rattle.line.specs.Reading.{LineRead}
 use Rattle.answer.specs.Wrote.{Space, Wrote}
-use Rattle.session.specs.Printing.{Answers, most, Ready, Replied}
+use Rattle.session.specs.Printing.{Answers, most, ReplyRoom, Replied}
 use Rattle.session.specs.Lengths.{asks-long}
 
 module _ {q : Question} {a : Pick} where
@@ -24,7 +24,7 @@ module _ {q : Question} {a : Pick} where
   answers f g P = record { is = P .is ∙ (λ i. pickOf (IsWedge (q .wedge)) [] (q .p) (toZ-ofZ f i) (toZ-ofZ g i)) }
 
 module _ {line : List ℕ} {l : Line} (L : LineRead line l) where
-  pub answer-space : {out : List ℕ} {at : ℕ} {q : Question} → l ≡ Asks q → Ready out at line → Space 71 out at
+  pub answer-space : {out : List ℕ} {at : ℕ} {q : Question} → l ≡ Asks q → ReplyRoom out at line → Space 71 out at
   answer-space {q} e R = record { enough = let h = asks-long line q (sym (L .is) ∙ e) in let s = R .space in omega arith }
 
   pub replies-answer : {out after : List ℕ} {at next : ℕ} {q : Question} {a : Pick} → l ≡ Asks q → Answers q a → Wrote 71 out at (told a) after next → Replied out at line after next

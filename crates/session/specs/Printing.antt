@@ -16,7 +16,7 @@ pub record Answers (q : Question) (a : Pick) : Type 0 where
 abbrev pub most : List ℕ → ℕ
 most line = max 2 (5 * length line)
 
-pub record Ready (out : List ℕ) (at : ℕ) (line : List ℕ) : Type 0 where
+pub record ReplyRoom (out : List ℕ) (at : ℕ) (line : List ℕ) : Type 0 where
   pub short : length line ≤ 65536
   pub space : at + most line ≤ length out
 

@@ -6,7 +6,7 @@ ghost use Prim.Native.Nat.{_*_};
 ghost use lib.ListN.{length};
 ghost use Rattle.rules.specs.Session.{lines, replies};
 ghost use Rattle.answer.specs.Wrote.{Wrote};
-ghost use Rattle.session.specs.Printing.{Answers, Ready, Replied, Enough, Ran};
+ghost use Rattle.session.specs.Printing.{Answers, ReplyRoom, Replied, Enough, Ran};
 
 fn pick_for(q: Question) -> Pick
     ensures { λ r. ⌜ Answers q r ⌝ }
@@ -19,7 +19,7 @@ fn pick_for(q: Question) -> Pick
 }
 
 fn put_reply(out: &mut [u8], at: usize, line: &[u8]) -> usize
-    requires { ⌜ Ready (now out) at (now line) ⌝ }
+    requires { ⌜ ReplyRoom (now out) at (now line) ⌝ }
     ensures { λ r. ⌜ Replied (now (out .entry)) at (now (line .entry)) (now (out .exit)) r ⌝ }
 {
     let l = line::read_line(line);

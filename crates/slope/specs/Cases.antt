@@ -20,8 +20,8 @@ use Rattle.rules.specs.declared.Pick.the-variants.{Accepted, Refused}
 use Rattle.rules.specs.Vectors.{vector, _⊕_, _⊖_, minus, scale, dot, cross, det, sphere, lay, size, origin}
 use Rattle.rules.specs.Solids.{between, permittedWedge, filledWedge, box, inBox, filled, look, rowBytes, sliceBytes, stackBytes, permittedStack, voxel, filledStack}
 use Rattle.rules.specs.Asked.{after, _>>=_}
-use Rattle.rules.specs.Walk.{ensure, sign, signs, seen, asked, powersFrom, powers, Axis, axis0, axis2, normal, allLevel, keep, only, remaining, takesPart, levelled, determinant, inside, anyInside, firstFree, choice, lookAt, falls, isLevel, axes, falling, round as roundOf, walk, found, start, rounds}
-use Rattle.rules.specs.Pick.{isInside, pick, answer, pickOf}
+use Rattle.rules.specs.Walk.{ensure, sign, signs, seen, asked, powersFrom, powers, Axis, axis0, axis2, normal, allLevel, keep, only, remaining, takesPart, levelled, determinant, inside, anyInside, firstFree, choice, lookAt, fallsAt, facing, isLevel, axes, start, falling, round as roundOf, walk, rounds, found, end}
+use Rattle.rules.specs.Pick.{isInside, placing, judging, pick, answer, pickOf}
 use Rattle.laws.specs.Tests.{first-of, second-of}
 use Rattle.laws.specs.Parts.{part, part-scale, part-origin, vector-eq}
 use Rattle.laws.specs.Ranges.{Between}
@@ -45,28 +45,28 @@ module _ (n : Vector) (k : Axis) (one : natAbs (part k n) ≡ 1) where
   not-all-zero : n ≡ origin → ⊥
   not-all-zero e = let z : _≡_ {A = ℕ} 0 1 = ap natAbs (sym (part-origin k)) ∙ ap (λ (a : Vector). natAbs (part k a)) (sym e) ∙ one in omega arith
 
--- ---- what is told of an answer
-data Told : Type 0 where
-  N : Vector → ℕ → ℕ → Told
-  R : ℕ → Told
+-- ---- the outcome of a pick
+data Outcome : Type 0 where
+  N : Vector → ℕ → ℕ → Outcome
+  R : ℕ → Outcome
 
-told : Pick → Told
-told (Accepted a) = N (a .normal) (a .steps) (a .looks)
-told (Refused r) = R (r .number)
+outcome : Pick → Outcome
+outcome (Accepted a) = N (a .normal) (a .steps) (a .looks)
+outcome (Refused r) = R (r .number)
 
-accepts : {n : Vector} {t : ℤ} {i : Inputs} {steps looks : ℕ} → OnSlope n t i → told (pickAt i) ≡ N n steps looks → Accepts n t i steps looks
-unfolding told
+accepts : {n : Vector} {t : ℤ} {i : Inputs} {steps looks : ℕ} → OnSlope n t i → outcome (pickAt i) ≡ N n steps looks → Accepts n t i steps looks
+unfolding outcome
 accepts {n} {t} {i} {steps} {looks} o e = go (pickAt i) refl e
   where
-    go : (x : Pick) → pickAt i ≡ x → told x ≡ N n steps looks → Accepts n t i steps looks
+    go : (x : Pick) → pickAt i ≡ x → outcome x ≡ N n steps looks → Accepts n t i steps looks
     go (Accepted a) is e = record { onSlope = o; answer = a; is = is; isNormal = cc e; stepsAre = cc e; looksAre = cc e }
     go (Refused r) is e = absurd (let z : _≡_ {A = ℕ} 0 1 = cc e in omega arith)
 
-refuses : {n : Vector} {t : ℤ} {i : Inputs} → OnSlope n t i → told (pickAt i) ≡ R 8 → Refuses n t i
-unfolding told
+refuses : {n : Vector} {t : ℤ} {i : Inputs} → OnSlope n t i → outcome (pickAt i) ≡ R 8 → Refuses n t i
+unfolding outcome
 refuses {n} {t} {i} o e = go (pickAt i) refl e
   where
-    go : (x : Pick) → pickAt i ≡ x → told x ≡ R 8 → Refuses n t i
+    go : (x : Pick) → pickAt i ≡ x → outcome x ≡ R 8 → Refuses n t i
     go (Accepted a) is e = absurd (let z : _≡_ {A = ℕ} 0 1 = cc e in omega arith)
     go (Refused r) is e = record { onSlope = o; answer = r; is = is; isEight = cc e }
 
@@ -141,7 +141,7 @@ on-stair = record {
 }
 
 pub not-empty : NotEmpty
-unfolding told _⊕_ _⊖_ minus scale dot cross det sphere lay size between permittedWedge filledWedge inBox look rowBytes voxel filledStack permittedStack stackBytes sliceBytes stairBytes slices rows row after _>>=_ ensure sign signs seen asked powersFrom powers normal allLevel keep only remaining takesPart levelled determinant inside anyInside firstFree choice lookAt falls isLevel axes falling roundOf walk found start rounds isInside pick answer pickOf accepts
+unfolding outcome _⊕_ _⊖_ minus scale dot cross det sphere lay size between permittedWedge filledWedge inBox look rowBytes voxel filledStack permittedStack stackBytes sliceBytes stairBytes slices rows row after _>>=_ ensure sign signs seen asked powersFrom powers normal allLevel keep only remaining takesPart levelled determinant inside anyInside firstFree choice lookAt fallsAt facing isLevel axes start falling roundOf walk rounds found end isInside placing judging pick answer pickOf accepts
 not-empty = record {
   W1 = accepts (on-line (on-wedge (pos 1) axis0 tt tt tt tt tt tt refl tt tt refl refl refl) tt tt) refl;
   W2 = accepts (on-line (on-wedge (pos 1) axis0 tt tt tt tt tt tt refl tt tt refl refl refl) tt tt) refl;

@@ -24,7 +24,7 @@ use Rattle.laws.specs.Triples.{All, all-first, all-second}
 use Rattle.laws.specs.Levels.{above-zero, isZero, levelsOf}
 use Rattle.laws.specs.Generators.{Combines, generators, two-sides}
 use Rattle.laws.specs.Frames.{signs-are, lay-lay, lay-part-zero, same-frame}
-use Rattle.laws.specs.Boxes.{between-yes}
+use Rattle.range.specs.Ranges.{between-yes}
 use Rattle.laws.specs.Theorems.{base-products}
 use Rattle.slope.specs.Demands as Demands
 use Rattle.slope.specs.Demands.{Inputs, signsOf, powersOf, pickAt, remainingOf, ofWedge, AcceptedWith}

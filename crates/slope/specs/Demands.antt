@@ -20,8 +20,8 @@ use Rattle.rules.specs.declared.Pick.{Pick}
 use Rattle.rules.specs.declared.Pick.the-variants.{Accepted, Refused}
 use Rattle.rules.specs.Vectors.{vector, _⊕_, scale, dot, lay, size, origin}
 use Rattle.rules.specs.Solids.{between, permitted, box, inBox, filled, look}
-use Rattle.rules.specs.Walk.{signs, powers, Axis, unit, vectorOf, level, remaining}
-use Rattle.rules.specs.Pick.{pickOf, WedgePromise, StackPromise}
+use Rattle.rules.specs.Walk.{signs, powers, Probe, Axis, unit, vectorOf, level, remaining}
+use Rattle.rules.specs.Pick.{probe, pickOf, WedgePromise, StackPromise}
 use Rattle.laws.specs.Tests.{Each}
 use Rattle.laws.specs.Parts.{NonNegative}
 use Rattle.laws.specs.Levels.{levelsOf}
@@ -43,6 +43,10 @@ signsOf i = signs (natAbs (i .frame))
 
 abbrev pub apexOf : Inputs → Vector
 apexOf i = i .start ⊕ signsOf i
+
+-- what the walk is about
+abbrev pub probeOf : Inputs → Probe
+probeOf i = probe (look (i .solid) (i .bytes)) (i .start) (i .frame) (i .reach)
 
 -- K, the number of powers
 abbrev pub powersOf : Inputs → ℕ
@@ -97,7 +101,7 @@ pub record AcceptedWith (n : Vector) (i : Inputs) (a : AcceptedPick) : Type 0 wh
 -- refused with 8, at the voxel that was to be looked at next: a power times minus a unit vector, a unit vector (an opposite) or a way of the triangle reached, from the apex; it lies outside the box
 pub record RefusedOutside (i : Inputs) (r : RefusedPick) : Type 0 where
   pub isEight : r .number ≡ 8
-  pub next : NextLook (look (i .solid) (i .bytes)) (apexOf i) (signsOf i) (powers (natAbs (i .reach))) (stopOf r)
+  pub next : NextLook (probeOf i) (stopOf r)
   pub outside : T (not (inBox (box (i .solid)) (r .place)))
 
 -- one of the two, nothing else

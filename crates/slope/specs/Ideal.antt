@@ -18,7 +18,7 @@ use Rattle.rules.specs.declared.Choice.{Choice}
 use Rattle.rules.specs.declared.Choice.the-variants.{Nothing, Chosen}
 use Rattle.rules.specs.Vectors.{_⊖_, dot}
 use Rattle.rules.specs.Walk.{Axis, axis0, axis1, axis2, vectorOf, withVector, pairs, from, first, second, way, step, choice, only, takesPart}
-use Rattle.laws.specs.Only.{each-both-of, only-holds, only-each, only-none, each-taking}
+use Rattle.laws.specs.Only.{each-both-of, only-holds, only-each, only-none, each-member, taking-in}
 use Rattle.laws.specs.Parts.{dot-difference}
 use Rattle.laws.specs.Triples.{All, all-first, all-second, all-with, detOf, step-det}
 use Rattle.laws.specs.Flat.{Flat, step-flat}
@@ -105,7 +105,7 @@ module _ (n : Vector) (v : Levels) where
   unfolding idealRound
   none-even m u e = record {
     upright = u;
-    none = λ x t. let f = each-taking (λ x. isDown m x ≡ false) v (only-none (isDown m) (only (takesPart v) pairs) (choice-exists m (u .unimodular) _ e)) x t in ltZ-no (rw f tt);
+    none = λ x t. let f = each-member (λ x. isDown m x ≡ false) x (only (takesPart v) pairs) (only-none (isDown m) (only (takesPart v) pairs) (choice-exists m (u .unimodular) _ e)) (taking-in v x t) in ltZ-no (rw f tt);
   }
 
   lowest : (m : Triangle) → Upright m → heights m ≤ℤ pos 3 → Even m

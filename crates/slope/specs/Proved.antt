@@ -12,7 +12,7 @@ use Rattle.rules.specs.declared.Pick.{Pick}
 use Rattle.rules.specs.declared.Pick.the-variants.{Accepted, Refused}
 use Rattle.rules.specs.Vectors.{dot, lay, size}
 use Rattle.rules.specs.Solids.{permitted, look}
-use Rattle.rules.specs.Walk.{signs, powers, Axis, unit, units, vectorOf, level, normal, levelled, Found, found}
+use Rattle.rules.specs.Walk.{signs, Axis, unit, units, vectorOf, level, normal, levelled, Probe, Found, laid, found}
 use Rattle.rules.specs.Pick.{pick, pickOf}
 use Rattle.laws.specs.Triples.{detOf}
 use Rattle.laws.specs.Levels.{levelsOf, at-most-3, some-remain}
@@ -22,8 +22,8 @@ use Rattle.laws.specs.Frames.{signs-are}
 use Rattle.laws.specs.Says.{Few}
 use Rattle.laws.specs.Powers.{three-most}
 use Rattle.laws.specs.Boxes.{outside-box}
-use Rattle.laws.specs.Answers.{laid, laid-of, foundOf, AnswerSays, answer-says, laid-products, laid-generated}
-use Rattle.slope.specs.Demands.{Inputs, signsOf, apexOf, powersOf, pickAt, remainingOf, OnSlope, Demanded, Same, Demand3}
+use Rattle.laws.specs.Answers.{laid-of, foundOf, AnswerSays, answer-says, laid-products, laid-generated}
+use Rattle.slope.specs.Demands.{Inputs, signsOf, probeOf, powersOf, pickAt, remainingOf, OnSlope, Demanded, Same, Demand3}
 use Rattle.slope.specs.Ideal.{ideal, ideal-steps}
 use Rattle.slope.specs.Picks.{some, few, ideally, fewest, end-even, end-normal, pick-says}
 use Rattle.slope.specs.Rounds.{Edge}
@@ -35,17 +35,17 @@ asked-few r w h k l = let e : w + 1 - r ≡ suc (w - r) = omega (arith, l) in rw
 
 module _ (n : Vector) (t : ℤ) (i : Inputs) (o : OnSlope n t i) where
   abbrev whole : Found
-  whole = found (signsOf i) (apexOf i) (levelsOf n) (ideally n t i o)
+  whole = found (probeOf i) (levelsOf n) (ideally n t i o)
 
   abbrev Said : Pick → Type 0
-  Said = AnswerSays (Few (fewest n t i o) (λ f. f ≡ whole)) (λ e l. Edge (look (i .solid) (i .bytes)) (apexOf i) (signsOf i) (powers (natAbs (i .reach))) e)
+  Said = AnswerSays (Few (fewest n t i o) (λ f. f ≡ whole)) (λ e l. Edge (probeOf i) e)
 
   said : Said (pickAt i)
   unfolding pickOf
   said = answer-says _ _ (pick (permitted (i .solid) (i .bytes)) (look (i .solid) (i .bytes)) (i .start) (i .frame) (i .reach)) (pick-says n t i o)
 
   pub is-whole : (a : AcceptedPick) → pickAt i ≡ Accepted a → foundOf a ≡ whole
-  is-whole a e = subst Said e said .holds
+  is-whole a e = subst Said e said .1 .holds
 
   is-normal : (a : AcceptedPick) → pickAt i ≡ Accepted a → a .normal ≡ n
   unfolding found
@@ -88,20 +88,20 @@ module _ (n : Vector) (t : ℤ) (i : Inputs) (o : OnSlope n t i) where
       go (Accepted a) e h = record {
         isNormal = is-normal a e;
         fewSteps = omega (arith, ideal-many a e, ideal-steps (raised (levelsOf n) (lay (signsOf i) n)) (levelsOf n) (size n - remainingOf n) 0 units);
-        fewLooks = omega (arith, h .few, few-enough);
-        fewestLooks = h .few;
+        fewLooks = omega (arith, h .1 .few, h .2, few-enough);
+        fewestLooks = omega (arith, h .1 .few, h .2);
         stays = rw (triangle-is a e) stay;
         inPlane = rw (triangle-is a e) (generators-in (levelsOf n) n (laid (signsOf i) m) products);
         generated = rw (triangle-is a e) generate;
       }
-      go (Refused r) e h = record { isEight = h .isEight; next = h .next; outside = outside-box (i .solid) (i .bytes) (r .place) (h .next .outside) }
+      go (Refused r) e h = record { isEight = h .1 .isEight; next = h .1 .next; outside = outside-box (i .solid) (i .bytes) (r .place) (h .1 .next .outside) }
 
 -- ---- two picks with the same signs: the ideal walk knows nothing else
-same-whole : (n s r p q : Vector) → s ≡ r → (f g : AcceptedPick)
-    → foundOf f ≡ found s p (levelsOf n) (ideal (raised (levelsOf n) (lay s n)) (levelsOf n) (size n - remainingOf n) 0 units)
-    → foundOf g ≡ found r q (levelsOf n) (ideal (raised (levelsOf n) (lay r n)) (levelsOf n) (size n - remainingOf n) 0 units) → Same f g
+same-whole : (n : Vector) (c d : Probe) → c .signs ≡ d .signs → (f g : AcceptedPick)
+    → foundOf f ≡ found c (levelsOf n) (ideal (raised (levelsOf n) (lay (c .signs) n)) (levelsOf n) (size n - remainingOf n) 0 units)
+    → foundOf g ≡ found d (levelsOf n) (ideal (raised (levelsOf n) (lay (d .signs) n)) (levelsOf n) (size n - remainingOf n) 0 units) → Same f g
 unfolding found
-same-whole n s r p q e f g x y = record {
+same-whole n c d e f g x y = record {
   normals = ap (λ (f : Found). f .normal) x ∙ ap (λ s. lay s (levelled (levelsOf n) (normal (walked s .0)))) e ∙ sym (ap (λ (f : Found). f .normal) y);
   triangles = ap (λ (f : Found). f .triangle) x ∙ ap (λ s. laid s (walked s .0)) e ∙ sym (ap (λ (f : Found). f .triangle) y);
   steps = ap (λ (f : Found). f .steps) x ∙ ap (λ s. walked s .1) e ∙ sym (ap (λ (f : Found). f .steps) y);
@@ -111,7 +111,7 @@ same-whole n s r p q e f g x y = record {
     walked s = ideal (raised (levelsOf n) (lay s n)) (levelsOf n) (size n - remainingOf n) 0 units
 
 pub two-picks : (n : Vector) (t u : ℤ) (i j : Inputs) → OnSlope n t i → OnSlope n u j → signsOf i ≡ signsOf j → (a b : AcceptedPick) → pickAt i ≡ Accepted a → pickAt j ≡ Accepted b → Same a b
-two-picks n t u i j o p e a b x y = same-whole n _ _ _ _ e a b (is-whole n t i o a x) (is-whole n u j p b y)
+two-picks n t u i j o p e a b x y = same-whole n _ _ e a b (is-whole n t i o a x) (is-whole n u j p b y)
 
 pub demand-3 : Demand3
 demand-3 = record {

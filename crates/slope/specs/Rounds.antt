@@ -9,85 +9,78 @@ use lib.Dec.{T}
 use lib.IntN.{ℤ, pos}
 use lib.Signed.{_≤ℤ_, ltZ}
 use Rattle.rules.specs.declared.Vector.{Vector}
-use Rattle.rules.specs.declared.Look.{Look}
 use Rattle.rules.specs.declared.Levels.{Levels}
 use Rattle.rules.specs.declared.Triangle.{Triangle}
 use Rattle.rules.specs.declared.Pair.{Pair}
 use Rattle.rules.specs.declared.Choice.{Choice}
 use Rattle.rules.specs.declared.Choice.the-variants.{Nothing, Chosen}
-use Rattle.rules.specs.Vectors.{dot, lay}
-use Rattle.rules.specs.Walk.{Stop, stop, pairs, way, step, keep, only, choice, takesPart}
+use Rattle.rules.specs.Vectors.{lay}
+use Rattle.rules.specs.Walk.{Stop, stop, pairs, way, step, keep, only, choice, takesPart, Probe}
 use Rattle.laws.specs.Tests.{Each}
 use Rattle.laws.specs.Only.{only-holds, only-in}
 use Rattle.laws.specs.Flat.{Flat, Lies, raised, raised-way}
-use Rattle.laws.specs.Frames.{lay-dot}
-use Rattle.laws.specs.Looks.{Fell, FellOf, RoundOf}
+use Rattle.laws.specs.Looks.{FellOf, RoundOf}
 use Rattle.laws.specs.Next.{LevelsAnswered, Reached, sideways, NextLook, next-look}
-use Rattle.laws.specs.Powers.{Reaches}
 use Rattle.laws.specs.Walks.{WalkRule}
 use Rattle.slope.specs.Falls.{Near, fell-is}
 use Rattle.slope.specs.Ideal.{downs, idealRound, ideal, Upright, heights, Down, step-upright, step-lower, no-step, round-down, ideal-ends, ideal-goes-on}
 
 -- refusal 8, at the voxel that was to be looked at next
-pub record Edge (look : Vector → Look) (q s : Vector) (ls : List ℕ) (r : Stop) : Type 0 where
+pub record Edge (c : Probe) (r : Stop) : Type 0 where
   pub isEight : r .number ≡ 8
-  pub next : NextLook look q s ls r
+  pub next : NextLook c r
 
 -- ---- rounds
-module _ {look : Vector → Look} {n : Vector} {t : ℤ} {q : Vector} {R : ℕ} (near : Near look n t q R) (s : Vector) (ls : List ℕ) (reaches : Reaches R ls) where
-  pub fell-lay : (u : Vector) (b : Bool) → Fell look q (lay s u) ls b → b ≡ ltZ (dot (lay s n) u) (pos 0)
-  fell-lay u b f = rw (lay-dot s n u) (fell-is near (lay s u) ls reaches b f)
+module _ {c : Probe} {n : Vector} {t : ℤ} {R : ℕ} (near : Near c n t R) (v : Levels) (lies : Lies v (lay (c .signs) n)) (asked : LevelsAnswered c v) where
+  abbrev N : Vector
+  N = raised v (lay (c .signs) n)
 
-  module _ (v : Levels) (lies : Lies v (lay s n)) (asked : LevelsAnswered look q s ls v) where
-    abbrev N : Vector
-    N = raised v (lay s n)
+  abbrev ps : List Pair
+  ps = only (takesPart v) pairs
 
-    abbrev ps : List Pair
-    ps = only (takesPart v) pairs
+  fell-downs : (m : Triangle) → Flat v m → (xs fs : List Pair) → Each (λ x. T (takesPart v x)) xs → FellOf c m xs fs → fs ≡ downs N v m xs
+  unfolding only
+  fell-downs m f [] fs ts h = h
+  fell-downs m f (x ∷ xs) fs ts h =
+      h .4 ∙ ap₂ (λ (b : Bool) (gs : List Pair). keep b x gs) (fell-is near (way m x) (h .0) (h .2) ∙ ap (λ z. ltZ z (pos 0)) (sym (raised-way v m f (lay (c .signs) n) lies x (ts .0)))) (fell-downs m f xs (h .1) (ts .1) (h .3))
 
-    fell-downs : (m : Triangle) → Flat v m → (xs fs : List Pair) → Each (λ x. T (takesPart v x)) xs → FellOf look q s ls m xs fs → fs ≡ downs N v m xs
-    unfolding only
-    fell-downs m f [] fs ts h = h
-    fell-downs m f (x ∷ xs) fs ts h =
-        h .4 ∙ ap₂ (λ (b : Bool) (gs : List Pair). keep b x gs) (fell-lay (way m x) (h .0) (h .2) ∙ ap (λ z. ltZ z (pos 0)) (sym (raised-way v m f (lay s n) lies x (ts .0)))) (fell-downs m f xs (h .1) (ts .1) (h .3))
+  round-ideal : (m : Triangle) (x : Choice) → Flat v m → RoundOf c ps m x → x ≡ idealRound N v m
+  unfolding idealRound
+  round-ideal m x f w = w .2 ∙ ap (choice m) (fell-downs m f ps (w .0) (only-holds (takesPart v) pairs) (w .1))
 
-    round-ideal : (m : Triangle) (c : Choice) → Flat v m → RoundOf look q s ls ps m c → c ≡ idealRound N v m
-    unfolding idealRound
-    round-ideal m c f w = w .2 ∙ ap (choice m) (fell-downs m f ps (w .0) (only-holds (takesPart v) pairs) (w .1))
+  -- heights of at most 3 + r leave at most r steps, and the ideal walk from here ends where it ended
+  pub record Kept (final : Triangle × ℕ) (left r k : ℕ) (m : Triangle) : Type 0 where
+    pub enough : r ≤ left
+    pub upright : Upright N v m
+    pub lower : heights N v m ≤ℤ pos (3 + r)
+    pub same : ideal N v r k m ≡ final
+    pub reached : Reached c ps k m
 
-    -- heights of at most 3 + r leave at most r steps, and the ideal walk from here ends where it ended
-    pub record Kept (final : Triangle × ℕ) (left r k : ℕ) (m : Triangle) : Type 0 where
-      pub enough : r ≤ left
-      pub upright : Upright N v m
-      pub lower : heights N v m ≤ℤ pos (3 + r)
-      pub same : ideal N v r k m ≡ final
-      pub reached : Reached look q s ls ps k m
+  falls-down : (m : Triangle) (x : Pair) → Flat v m → RoundOf c ps m (Chosen x) → Down N v m x
+  falls-down m x f w = rw (← round-ideal m (Chosen x) f w) at (round-down N v m)
 
-    falls-down : (m : Triangle) (x : Pair) → Flat v m → RoundOf look q s ls ps m (Chosen x) → Down N v m x
-    falls-down m x f w = rw (← round-ideal m (Chosen x) f w) at (round-down N v m)
+  pub slope-walk : (final : Triangle × ℕ) → WalkRule c ps (Kept final) (λ e. e ≡ final) (Edge c)
+  slope-walk final = record {
+    outside = λ left r k m p h o. record { isEight = refl; next = next-look c (way m (o .pair)) (sideways v asked m (h .reached) (o .pair) (only-in (takesPart v) (o .pair) pairs (o .isPair)) refl) (o .stopped) };
+    ends = λ left r k m h w. sym (ideal-ends N v r k m (round-ideal m Nothing (h .upright .flat) w)) ∙ h .same;
+    stops = stops;
+    steps = steps;
+  }
+    where
+      stops : (r k : ℕ) (m : Triangle) (x : Pair) → Kept final 0 r k m → RoundOf c ps m (Chosen x) → Edge c (stop 9 (c .apex) k)
+      stops zero k m x h w = absurd (no-step N v m x (h .upright) (falls-down m x (h .upright .flat) w) (h .lower))
+      stops (suc r) k m x h w = absurd (omega (arith, h .enough))
 
-    pub slope-walk : (final : Triangle × ℕ) → WalkRule look q s ls ps (Kept final) (λ e. e ≡ final) (Edge look q s ls)
-    slope-walk final = record {
-      outside = λ left r k m p h o. record { isEight = refl; next = next-look look q s ls (way m (o .pair)) (sideways v asked m (h .reached) (o .pair) (only-in (takesPart v) (o .pair) pairs (o .isPair)) refl) (o .stopped) };
-      ends = λ left r k m h w. sym (ideal-ends N v r k m (round-ideal m Nothing (h .upright .flat) w)) ∙ h .same;
-      stops = stops;
-      steps = steps;
-    }
-      where
-        stops : (r k : ℕ) (m : Triangle) (x : Pair) → Kept final 0 r k m → RoundOf look q s ls ps m (Chosen x) → Edge look q s ls (stop 9 q k)
-        stops zero k m x h w = absurd (no-step N v m x (h .upright) (falls-down m x (h .upright .flat) w) (h .lower))
-        stops (suc r) k m x h w = absurd (omega (arith, h .enough))
-
-        steps : (left r k : ℕ) (m : Triangle) (x : Pair) → Kept final (suc left) r k m → RoundOf look q s ls ps m (Chosen x) → (j : ℕ) × (suc j ≤ r) × Kept final left j (suc k) (step m x)
-        steps left zero k m x h w = absurd (no-step N v m x (h .upright) (falls-down m x (h .upright .flat) w) (h .lower))
-        steps left (suc r) k m x h w = (
-          r,
-          omega arith,
-          record {
-            enough = omega (arith, h .enough);
-            upright = step-upright N v m x (h .upright) (falls-down m x (h .upright .flat) w);
-            lower = step-lower N v m x r (h .upright) (h .lower);
-            same = sym (ideal-goes-on N v r k m x (round-ideal m (Chosen x) (h .upright .flat) w)) ∙ h .same;
-            reached = (m, x, h .reached, w, refl);
-          },
-        )
+      steps : (left r k : ℕ) (m : Triangle) (x : Pair) → Kept final (suc left) r k m → RoundOf c ps m (Chosen x) → (j : ℕ) × (suc j ≤ r) × Kept final left j (suc k) (step m x)
+      steps left zero k m x h w = absurd (no-step N v m x (h .upright) (falls-down m x (h .upright .flat) w) (h .lower))
+      steps left (suc r) k m x h w = (
+        r,
+        omega arith,
+        record {
+          enough = omega (arith, h .enough);
+          upright = step-upright N v m x (h .upright) (falls-down m x (h .upright .flat) w);
+          lower = step-lower N v m x r (h .upright) (h .lower);
+          same = sym (ideal-goes-on N v r k m x (round-ideal m (Chosen x) (h .upright .flat) w)) ∙ h .same;
+          reached = (m, x, h .reached, w, refl);
+        },
+      )

@@ -1,65 +1,29 @@
--- What a permitted solid and a point of its box give, as ranges. A range's test and a side's test give inequalities, and `omega` the sizes;
--- the rest takes the conjunctions apart. Every box lies in the cube of side 1024, so whatever is looked at inside lies there.
-use mathlib.Core.Path.{_≡_, refl, sym, _∙_}
-use mathlib.Core.Bool.{Bool, true, false, _&&_}
+-- What a permitted solid and a point of its box give, as sizes. Every box lies in the cube of side 1024, so whatever is looked at inside lies there.
 use mathlib.Core.List.{List}
-use Prim.Native.Nat.{ℕ, suc}
+use Prim.Native.Nat.{ℕ}
 use native.Mathlib.Omega.{arith}
-use lib.Dec.{leb}
+use lib.Dec.{T}
 use lib.IntN.{ℤ, pos, negsuc}
-use lib.ListN.{length}
-use lib.Signed.{_≤ℤ_, _<ℤ_}
-use borrow.Author.Tests.{leb-true}
+use mir.Facts.{and-yes}
 use Rattle.integers.specs.Order.{parts}
 use Rattle.integers.specs.Sizes.{Within, sizes}
-use Rattle.integers.specs.Machine.{le-yes, lt-yes}
 use Rattle.rules.specs.declared.Vector.{Vector}
 use Rattle.rules.specs.declared.Wedge.{Wedge}
-use Rattle.rules.specs.declared.Stack.{Stack}
 use Rattle.rules.specs.declared.Solid.{Solid}
-use Rattle.rules.specs.declared.Solid.the-variants.{Wedge as IsWedge, Stack as IsStack}
-use Rattle.rules.specs.Solids.{between, permittedWedge, permittedSize, permittedStack, stackBytes, box, inSide, inBox}
+use Rattle.rules.specs.declared.Solid.the-variants.{Wedge as IsWedge}
+use Rattle.rules.specs.Solids.{between, permittedWedge}
+use Rattle.range.specs.Ranges.{between-within}
 use Rattle.laws.specs.Ranges.{Between, Bounded}
-use Rattle.laws.specs.Boxes.{between-yes, look-inside, solid-cube}
-use Rattle.solid.specs.Asks.{Permitted, Inside, WedgeAsks, sizesPermitted, SizesAsk, Small, Along, StackAsks}
+use Rattle.laws.specs.Boxes.{look-inside, solid-cube}
+use Rattle.solid.specs.Asks.{PermittedSolid, InBoxOf, WedgeAsks}
 
-pub split : (a b : Bool) → (a && b) ≡ true → (a ≡ true) × (b ≡ true)
-split true b e = (refl, e)
-split false true e = (e, refl)
-split false false e = (e, e)
-
--- ---- one number
-pub between-within : (k : ℕ) (x : ℤ) → between (negsuc k) x (pos (suc k)) ≡ true → Within (suc k) x
-between-within k x e = let s = between-yes (negsuc k) x (pos (suc k)) (rw e tt) in omega (arith, parts, sizes)
-
-pub side-yes : (side x : ℤ) → inSide side x ≡ true → (pos 0 ≤ℤ x) × (x <ℤ side)
-side-yes side x e = let s = split _ _ e in (le-yes (pos 0) x (s .0), lt-yes x side (s .1))
-
-pub size-small : (x : ℤ) → permittedSize x ≡ true → Small x
-size-small x e = let s = between-yes (pos 1) x (pos 256) (rw e tt) in record { low = omega (arith, parts); high = omega (arith, parts, sizes) }
-
-along : (side x : ℤ) → permittedSize side ≡ true → inSide side x ≡ true → Along side x
-along side x e f =
-    let s = between-yes (pos 1) side (pos 256) (rw e tt) in
-    let t = side-yes side x f in
-    record { side-in = size-small side e; x-in = record { low = t .0; high = omega (arith, parts, sizes) }; below = t .1 }
-
--- ---- the solids
-pub permitted-stack : (k : Stack) (bytes : List ℕ) → permittedStack k bytes ≡ (sizesPermitted k && leb (stackBytes k) (length bytes))
-unfolding permittedStack sizesPermitted
-permitted-stack k bytes = grouped (permittedSize (k .width)) (permittedSize (k .height)) (permittedSize (k .depth)) (leb (stackBytes k) (length bytes))
-  where
-    grouped : (a b c d : Bool) → (a && (b && (c && d))) ≡ ((a && (b && c)) && d)
-    grouped true true c d = refl
-    grouped true false c d = refl
-    grouped false b c d = refl
-
-pub wedge-asks : {w : Wedge} {bytes : List ℕ} → Permitted (IsWedge w) bytes → WedgeAsks w
+pub wedge-asks : {w : Wedge} {bytes : List ℕ} → PermittedSolid (IsWedge w) bytes → WedgeAsks w
 unfolding permittedWedge
 wedge-asks {w} h =
-    let a = split _ _ (h .is) in
-    let b = split _ _ (a .1) in
-    let c = split _ _ (b .1) in
+    let t : T (permittedWedge w) = rw (h .is) tt in
+    let a = and-yes (between (negsuc 999) (w .a) (pos 1000)) _ t in
+    let b = and-yes (between (negsuc 999) (w .b) (pos 1000)) _ (a .1) in
+    let c = and-yes (between (negsuc 999) (w .c) (pos 1000)) _ (b .1) in
     record {
       in-a = between-within 999 (w .a) (a .0);
       in-b = between-within 999 (w .b) (b .0);
@@ -67,46 +31,8 @@ wedge-asks {w} h =
       in-h = between-within 3999999 (w .h) (c .1);
     }
 
--- the three sizes' tests of a stack
-record SizeTests (k : Stack) : Type 0 where
-  width-is : permittedSize (k .width) ≡ true
-  height-is : permittedSize (k .height) ≡ true
-  depth-is : permittedSize (k .depth) ≡ true
-
-sizes-are : {k : Stack} → sizesPermitted k ≡ true → SizeTests k
-unfolding sizesPermitted
-sizes-are e = let a = split _ _ e in let b = split _ _ (a .1) in record { width-is = a .0; height-is = b .0; depth-is = b .1 }
-
-pub sizes-ask : {k : Stack} → sizesPermitted k ≡ true → SizesAsk k
-sizes-ask e = let s = sizes-are e in record { width-in = size-small _ (s .width-is); height-in = size-small _ (s .height-is); depth-in = size-small _ (s .depth-is) }
-
-stack-is : {k : Stack} {bytes : List ℕ} → Permitted (IsStack k) bytes → SizeTests k × (leb (stackBytes k) (length bytes) ≡ true)
-stack-is {k} {bytes} h = let s = split _ _ (sym (permitted-stack k bytes) ∙ h .is) in (sizes-are (s .0), s .1)
-
--- the three sides' tests of a point of the box
-record SideTests (sides p : Vector) : Type 0 where
-  along-x : inSide (sides .x) (p .x) ≡ true
-  along-y : inSide (sides .y) (p .y) ≡ true
-  along-z : inSide (sides .z) (p .z) ≡ true
-
-sides-are : (sides p : Vector) → inBox sides p ≡ true → SideTests sides p
-unfolding inBox
-sides-are sides p e = let a = split _ _ e in let b = split _ _ (a .1) in record { along-x = a .0; along-y = b .0; along-z = b .1 }
-
-pub stack-asks : {k : Stack} {bytes : List ℕ} {p : Vector} → Permitted (IsStack k) bytes → Inside (IsStack k) p → StackAsks k bytes p
-stack-asks {k} {bytes} {p} h i =
-    let t = stack-is h in
-    let s = t .0 in
-    let e = sides-are _ p (i .is) in
-    record {
-      along-x = along (k .width) (p .x) (s .width-is) (e .along-x);
-      along-y = along (k .height) (p .y) (s .height-is) (e .along-y);
-      along-z = along (k .depth) (p .z) (s .depth-is) (e .along-z);
-      room = leb-true _ _ (t .1);
-    }
-
 -- ---- a point of the box lies in the cube of side 1024
-pub inside-bounded : {s : Solid} {bytes : List ℕ} {p : Vector} → Permitted s bytes → Inside s p → Bounded 1023 p
+pub inside-bounded : {s : Solid} {bytes : List ℕ} {p : Vector} → PermittedSolid s bytes → InBoxOf s p → Bounded 1023 p
 inside-bounded {s} {bytes} {p} h i =
     let c = solid-cube s bytes (rw (h .is) tt) p (rw (look-inside s bytes p, i .is) tt) in
     record { in-x = size (c .ofX); in-y = size (c .ofY); in-z = size (c .ofZ) }

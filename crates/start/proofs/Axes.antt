@@ -6,22 +6,20 @@ use Prim.Native.Nat.{ℕ, _+_, _≤_}
 use native.Mathlib.Omega.{arith}
 use lib.Dec.{lit≤}
 use Rattle.rules.specs.declared.Vector.{Vector}
-use Rattle.rules.specs.declared.Look.{Look}
 use Rattle.rules.specs.declared.Levels.{Levels}
 use Rattle.rules.specs.declared.Refused.{Refused}
 use Rattle.rules.specs.Vectors.{_⊕_, minus, lay, unit0, unit1, unit2}
-use Rattle.rules.specs.Walk.{powers, levels, allLevel, falls, isLevel, axes}
-use Rattle.falls.specs.Tally.{Gives}
+use Rattle.rules.specs.Walk.{levels, allLevel, Probe, falls, isLevel, axes}
+use Rattle.laws.specs.Tally.{Gives, then-yes, then-no, asked-yes, asked-no, ensured, not-ensured, at-once}
 use Rattle.falls.specs.declared.Falls.{Falls}
 use Rattle.falls.specs.declared.Falls.the-variants.{Fell, Kept, Stopped}
 use Rattle.laws.specs.Frames.{Signs}
 use Rattle.laws.specs.Ranges.{Bounded}
 use Rattle.space.specs.Bounds.{bounded-is, bounded-wider, bounded-opposite, bounded-lay}
-use Rattle.falls.specs.Falls.{Fallen, told as toldFalls, looksOf as looksOfFalls}
-use Rattle.falls.proofs.Scenes.{signs-bounded}
+use Rattle.falls.specs.Falls.{Fallen, fallsTally, fallsLooks}
+use Rattle.falls.specs.Sizes.{signs-bounded}
 use Rattle.walk.specs.Walk.{refusalOf}
-use Rattle.falls.proofs.Tallies.{then-yes, then-no, asked-yes, asked-no, ensured, not-ensured, at-once}
-use Rattle.start.specs.Start.{axisRefusal, judging, opposite, Opposed, LevelsJudged, MinusAsked, OppositeAsked, AxisJudged, AxesAsked, toldAxis, looksOfAxis}
+use Rattle.start.specs.Start.{axisRefusal, judging, opposite, Opposed, LevelsJudged, MinusAsked, OppositeAsked, AxisJudged, AxesAsked, axisTally, axisLooks}
 use Rattle.start.specs.declared.AxisAnswer.{AxisAnswer}
 use Rattle.start.specs.declared.AxisAnswer.the-variants.{Asked as IsAsked, Refused as AxisRefused}
 use Rattle.start.specs.declared.Start.{Start}
@@ -31,41 +29,41 @@ abbrev looksIn : Refused → ℕ
 looksIn r = r .looks
 
 -- what the falls question gave, of the vector w, once its answer is known
-gave : (w : Vector) {look : Vector → Look} {q u : Vector} {reach n : ℕ} {f : Falls} (g : Falls) → Fallen look q u reach n f → u ≡ w → f ≡ g → Gives n (falls look q w (powers reach)) (toldFalls g)
+gave : (w : Vector) {c : Probe} {u : Vector} {n : ℕ} {f : Falls} (g : Falls) → Fallen c u n f → u ≡ w → f ≡ g → Gives n (falls c w) (fallsTally g)
 gave w g h a i = rw (← a, ← i) (h .gives)
 
 -- ---- the opposite, from what the falls question promised
-module _ {look : Vector → Look} {q s : Vector} {reach : ℕ} {e : Vector} {n : ℕ} {f : Falls} {u : Vector} (h : Fallen look q u reach n f) (a : u ≡ lay s e) where
-  pub opposite-fell : {k : ℕ} {r : Refused} → f ≡ Fell k → Opposed q s e k r → OppositeAsked look q s reach e n (AxisRefused r)
+module _ {c : Probe} {e : Vector} {n : ℕ} {f : Falls} {u : Vector} (h : Fallen c u n f) (a : u ≡ lay (c .signs) e) where
+  pub opposite-fell : {k : ℕ} {r : Refused} → f ≡ Fell k → Opposed (c .apex) (c .signs) e k r → OppositeAsked c e n (AxisRefused r)
   unfolding opposite
-  opposite-fell {k} i l = record { gives = rw (l .is) (then-yes _ (asked-yes 0 (gave (lay s e) (Fell k) h a i)) (then-no _ (not-ensured refl))); few = omega (arith, h .few, ap looksOfFalls i, ap looksIn (l .is)) }
+  opposite-fell {k} i l = record { gives = rw (l .is) (then-yes _ (asked-yes 0 (gave (lay (c .signs) e) (Fell k) h a i)) (then-no _ (not-ensured refl))); few = omega (arith, h .few, ap fallsLooks i, ap looksIn (l .is)) }
 
-  pub opposite-kept : {k : ℕ} → f ≡ Kept k → OppositeAsked look q s reach e n (IsAsked true k)
+  pub opposite-kept : {k : ℕ} → f ≡ Kept k → OppositeAsked c e n (IsAsked true k)
   unfolding opposite
-  opposite-kept {k} i = record { gives = then-yes _ (asked-yes 0 (gave (lay s e) (Kept k) h a i)) (then-yes _ (ensured (axisRefusal q s e) refl) at-once); few = omega (arith, h .few, ap looksOfFalls i) }
+  opposite-kept {k} i = record { gives = then-yes _ (asked-yes 0 (gave (lay (c .signs) e) (Kept k) h a i)) (then-yes _ (ensured (axisRefusal (c .apex) (c .signs) e) refl) at-once); few = omega (arith, h .few, ap fallsLooks i) }
 
-  pub opposite-stopped : {k : ℕ} {p : Vector} {r : Refused} → f ≡ Stopped p k → r ≡ refusalOf 8 p 0 k → OppositeAsked look q s reach e n (AxisRefused r)
+  pub opposite-stopped : {k : ℕ} {p : Vector} {r : Refused} → f ≡ Stopped p k → r ≡ refusalOf 8 p 0 k → OppositeAsked c e n (AxisRefused r)
   unfolding opposite
-  opposite-stopped {k} {p} i l = record { gives = rw l (then-no _ (asked-no 0 (gave (lay s e) (Stopped p k) h a i))); few = omega (arith, h .few, ap looksOfFalls i, ap looksIn l) }
+  opposite-stopped {k} {p} i l = record { gives = rw l (then-no _ (asked-no 0 (gave (lay (c .signs) e) (Stopped p k) h a i))); few = omega (arith, h .few, ap fallsLooks i, ap looksIn l) }
 
 pub ruleset opposing = (opposite-fell, opposite-kept, opposite-stopped)
 
 -- ---- one axis, from what the question of minus its unit vector gave
-pub minus-asked : {look : Vector → Look} {q s : Vector} {reach : ℕ} {e : Vector} {n : ℕ} {f : Falls} {u : Vector} → u ≡ lay s (minus e) → Fallen look q u reach n f → MinusAsked look q s reach e n f
+pub minus-asked : {c : Probe} {e : Vector} {n : ℕ} {f : Falls} {u : Vector} → u ≡ lay (c .signs) (minus e) → Fallen c u n f → MinusAsked c e n f
 minus-asked a h = record { gives = rw a at (h .gives); few = h .few }
 
-module _ {look : Vector → Look} {q s : Vector} {reach : ℕ} {e : Vector} {f : Falls} where
-  pub axis-fell : {k : ℕ} → f ≡ Fell k → AxisJudged look q s reach e f (IsAsked false k)
+module _ {c : Probe} {e : Vector} {f : Falls} where
+  pub axis-fell : {k : ℕ} → f ≡ Fell k → AxisJudged c e f (IsAsked false k)
   unfolding isLevel
-  axis-fell i = record { gives = λ h. then-yes _ (asked-yes 0 (rw i at (h .gives))) at-once; few = omega (arith, ap looksOfFalls i) }
+  axis-fell i = record { gives = λ h. then-yes _ (asked-yes 0 (rw i at (h .gives))) at-once; few = omega (arith, ap fallsLooks i) }
 
-  pub axis-kept : {k : ℕ} {r : AxisAnswer} → f ≡ Kept k → OppositeAsked look q s reach e k r → AxisJudged look q s reach e f r
+  pub axis-kept : {k : ℕ} {r : AxisAnswer} → f ≡ Kept k → OppositeAsked c e k r → AxisJudged c e f r
   unfolding isLevel opposite
-  axis-kept i o = record { gives = λ h. then-yes _ (asked-yes 0 (rw i at (h .gives))) (o .gives); few = omega (arith, ap looksOfFalls i, o .few) }
+  axis-kept i o = record { gives = λ h. then-yes _ (asked-yes 0 (rw i at (h .gives))) (o .gives); few = omega (arith, ap fallsLooks i, o .few) }
 
-  pub axis-stopped : {k : ℕ} {p : Vector} {r : Refused} → f ≡ Stopped p k → r ≡ refusalOf 8 p 0 k → AxisJudged look q s reach e f (AxisRefused r)
+  pub axis-stopped : {k : ℕ} {p : Vector} {r : Refused} → f ≡ Stopped p k → r ≡ refusalOf 8 p 0 k → AxisJudged c e f (AxisRefused r)
   unfolding isLevel
-  axis-stopped i l = record { gives = λ h. rw l (then-no _ (asked-no 0 (rw i at (h .gives)))); few = omega (arith, ap looksOfFalls i, ap looksIn l) }
+  axis-stopped i l = record { gives = λ h. rw l (then-no _ (asked-no 0 (rw i at (h .gives)))); few = omega (arith, ap fallsLooks i, ap looksIn l) }
 
 pub ruleset judging-axis = (axis-fell, axis-kept, axis-stopped)
 
@@ -88,46 +86,46 @@ module _ {q s : Vector} (v : Levels) {n : ℕ} where
   judged-begun t = record { gives = then-yes _ (ensured (axisRefusal q s unit0) (not-all v t)) at-once; few = omega arith }
 
 -- ---- the three axes
-module _ (look : Vector → Look) (q s : Vector) (reach : ℕ) where
+module _ (c : Probe) where
   -- an axis, from its question and the judgement
   record AxisAsked (e : Vector) (n : ℕ) (r : AxisAnswer) : Type 0 where
-    gives : Gives n (isLevel look q s (powers reach) e) (toldAxis r)
-    few : looksOfAxis r ≤ n + 1024
+    gives : Gives n (isLevel c e) (axisTally r)
+    few : axisLooks r ≤ n + 1024
 
-  axis-asked : {e : Vector} {n : ℕ} {f : Falls} {a r : AxisAnswer} → MinusAsked look q s reach e n f → AxisJudged look q s reach e f a → a ≡ r → AxisAsked e n r
-  axis-asked h g i = record { gives = rw i at (g .gives h); few = omega (arith, h .few, g .few, ap looksOfAxis i) }
+  axis-asked : {e : Vector} {n : ℕ} {f : Falls} {a r : AxisAnswer} → MinusAsked c e n f → AxisJudged c e f a → a ≡ r → AxisAsked e n r
+  axis-asked h g i = record { gives = rw i at (g .gives h); few = omega (arith, h .few, g .few, ap axisLooks i) }
 
-pub axis-few : {look : Vector → Look} {q s e : Vector} {reach n : ℕ} {f : Falls} {a : AxisAnswer} {x : Bool} {i : ℕ} → MinusAsked look q s reach e n f → AxisJudged look q s reach e f a → a ≡ IsAsked x i → i ≤ n + 1024
-axis-few {look} {q} {s} {reach = reach} h g i = axis-asked look q s reach h g i .few
+pub axis-few : {c : Probe} {e : Vector} {n : ℕ} {f : Falls} {a : AxisAnswer} {x : Bool} {i : ℕ} → MinusAsked c e n f → AxisJudged c e f a → a ≡ IsAsked x i → i ≤ n + 1024
+axis-few {c} h g i = axis-asked c h g i .few
 
-module _ {look : Vector → Look} {q s : Vector} {reach n : ℕ} {f : Falls} {a : AxisAnswer} (hf : MinusAsked look q s reach unit0 n f) (ha : AxisJudged look q s reach unit0 f a) where
-  pub first-refused : {r : Refused} → a ≡ AxisRefused r → AxesAsked look q s reach n (IsRefused r)
+module _ {c : Probe} {n : ℕ} {f : Falls} {a : AxisAnswer} (hf : MinusAsked c unit0 n f) (ha : AxisJudged c unit0 f a) where
+  pub first-refused : {r : Refused} → a ≡ AxisRefused r → AxesAsked c n (IsRefused r)
   unfolding axes
-  first-refused ea = let x = axis-asked look q s reach hf ha ea in record { gives = then-no _ (x .gives); few = omega (arith, x .few) }
+  first-refused ea = let x = axis-asked c hf ha ea in record { gives = then-no _ (x .gives); few = omega (arith, x .few) }
 
-  module _ {x : Bool} {i : ℕ} {g : Falls} {b : AxisAnswer} (ea : a ≡ IsAsked x i) (hg : MinusAsked look q s reach unit1 i g) (hb : AxisJudged look q s reach unit1 g b) where
-    pub second-refused : {r : Refused} → b ≡ AxisRefused r → AxesAsked look q s reach n (IsRefused r)
+  module _ {x : Bool} {i : ℕ} {g : Falls} {b : AxisAnswer} (ea : a ≡ IsAsked x i) (hg : MinusAsked c unit1 i g) (hb : AxisJudged c unit1 g b) where
+    pub second-refused : {r : Refused} → b ≡ AxisRefused r → AxesAsked c n (IsRefused r)
     unfolding axes
     second-refused eb =
-        let x = axis-asked look q s reach hf ha ea in
-        let y = axis-asked look q s reach hg hb eb in
+        let x = axis-asked c hf ha ea in
+        let y = axis-asked c hg hb eb in
         record { gives = then-yes _ (x .gives) (then-no _ (y .gives)); few = omega (arith, x .few, y .few) }
 
-    module _ {y : Bool} {j : ℕ} {h : Falls} {c : AxisAnswer} (eb : b ≡ IsAsked y j) (hh : MinusAsked look q s reach unit2 j h) (hc : AxisJudged look q s reach unit2 h c) where
-      pub third-refused : {r : Refused} → c ≡ AxisRefused r → AxesAsked look q s reach n (IsRefused r)
+    module _ {y : Bool} {j : ℕ} {h : Falls} {d : AxisAnswer} (eb : b ≡ IsAsked y j) (hh : MinusAsked c unit2 j h) (hd : AxisJudged c unit2 h d) where
+      pub third-refused : {r : Refused} → d ≡ AxisRefused r → AxesAsked c n (IsRefused r)
       unfolding axes
-      third-refused ec =
-          let x = axis-asked look q s reach hf ha ea in
-          let y = axis-asked look q s reach hg hb eb in
-          let z = axis-asked look q s reach hh hc ec in
+      third-refused ed =
+          let x = axis-asked c hf ha ea in
+          let y = axis-asked c hg hb eb in
+          let z = axis-asked c hh hd ed in
           record { gives = then-yes _ (x .gives) (then-yes _ (y .gives) (then-no _ (z .gives))); few = omega (arith, x .few, y .few, z .few) }
 
-      pub axes-judged : {z : Bool} {k : ℕ} {r : Start} → c ≡ IsAsked z k → LevelsJudged q s (levels x y z) k r → AxesAsked look q s reach n r
+      pub axes-judged : {z : Bool} {k : ℕ} {r : Start} → d ≡ IsAsked z k → LevelsJudged (c .apex) (c .signs) (levels x y z) k r → AxesAsked c n r
       unfolding axes judging
-      axes-judged ec o =
-          let x = axis-asked look q s reach hf ha ea in
-          let y = axis-asked look q s reach hg hb eb in
-          let z = axis-asked look q s reach hh hc ec in
+      axes-judged ed o =
+          let x = axis-asked c hf ha ea in
+          let y = axis-asked c hg hb eb in
+          let z = axis-asked c hh hd ed in
           record { gives = then-yes _ (x .gives) (then-yes _ (y .gives) (then-yes _ (z .gives) (o .gives))); few = omega (arith, x .few, y .few, z .few, o .few) }
 
 pub ruleset in-turn = (first-refused, second-refused, third-refused, axes-judged)

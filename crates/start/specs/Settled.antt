@@ -1,25 +1,22 @@
 -- What `start_at` ensures settles its answer: the start is made again of what it tells.
 use mathlib.Core.Path.{_≡_, refl}
-use Prim.Native.Nat.{ℕ}
 use Rattle.rules.specs.declared.Vector.{Vector}
-use Rattle.rules.specs.declared.Look.{Look}
 use Rattle.rules.specs.declared.Levels.{Levels}
-use Rattle.rules.specs.Walk.{Stop}
-use Rattle.falls.specs.Tally.{Tally, yes, no}
-use Rattle.falls.specs.Settled.{told-settled}
+use Rattle.rules.specs.Walk.{Stop, Probe}
+use Rattle.laws.specs.Tally.{Tally, yes, no, gives-settled}
 use Rattle.walk.specs.Settled.{refusalMade}
 use Rattle.start.specs.declared.Start.{Start}
 use Rattle.start.specs.declared.Start.the-variants.{Begun, Refused as IsRefused}
-use Rattle.start.specs.Start.{told, Started}
+use Rattle.start.specs.Start.{startTally, Started}
 
 made : Tally Stop Levels → Start
 made (yes v k) = Begun v k
 made (no s k) = IsRefused (refusalMade s k)
 
-made-again : (r : Start) → made (told r) ≡ r
+made-again : (r : Start) → made (startTally r) ≡ r
 unfolding made
 made-again (Begun v k) = refl
 made-again (IsRefused r) = refl
 
-pub started-settled : {look : Vector → Look} {q s : Vector} {reach : ℕ} {p : Vector} {r t : Start} → Started look q s reach p r → Started look q s reach p t → r ≡ t
-started-settled {r = r} {t} h k = told-settled made (made-again r) (made-again t) (h .gives) (k .gives)
+pub started-settled : {c : Probe} {p : Vector} {r t : Start} → Started c p r → Started c p t → r ≡ t
+started-settled {r = r} {t} h k = gives-settled made (made-again r) (made-again t) (h .gives) (k .gives)

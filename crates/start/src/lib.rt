@@ -1,12 +1,12 @@
 // The start: p, q and the axes.
 ghost use mathlib.Core.Path.{_≡_};
-ghost use Prim.Native.Nat.{_≤_};
 ghost use Rattle.rules.specs.Vectors.{minus, lay};
 ghost use Rattle.laws.specs.Ranges.{Bounded};
 ghost use Rattle.laws.specs.Frames.{Signs};
-ghost use Rattle.falls.specs.Scene.{Ready};
-ghost use Rattle.falls.specs.Falls.{looksOf};
-ghost use Rattle.start.specs.Start.{OpposedIn, MinusAskedIn, OppositeAskedIn, AxisJudgedIn, LevelsJudgedIn, AxesAskedIn, StartedIn};
+ghost use Rattle.laws.specs.Tally.{Countable};
+ghost use Rattle.falls.specs.Scene.{probeOf, Ready};
+ghost use Rattle.falls.specs.Falls.{fallsLooks};
+ghost use Rattle.start.specs.Start.{Opposed, MinusAsked, OppositeAsked, AxisJudged, LevelsJudged, AxesAsked, Started};
 use falls::Falls;
 use falls::Scene;
 use rules::Levels;
@@ -37,7 +37,7 @@ fn lay_minus(s: Vector, e: Vector) -> Vector
 // Refusal 7: q less an axis's unit vector, laid in.
 fn refuse_axis(scene: Scene, e: Vector, looks: u32) -> Refused
     requires { ⌜ Bounded 1000000000 (scene .apex) × Signs (scene .signs) × Bounded 1 e ⌝ }
-    ensures { λ r. ⌜ OpposedIn scene e looks r ⌝ }
+    ensures { λ r. ⌜ Opposed (scene .apex) (scene .signs) e looks r ⌝ }
 {
     let q = scene.apex;
     let s = scene.signs;
@@ -47,8 +47,8 @@ fn refuse_axis(scene: Scene, e: Vector, looks: u32) -> Refused
 
 // Whether minus the unit vector e falls.
 fn ask_minus(scene: Scene, bytes: &[u8], e: Vector, looks: u32) -> Falls
-    requires { ⌜ Ready scene (now bytes) × Bounded 1 e × (looks ≤ 4000) ⌝ }
-    ensures { λ r. ⌜ MinusAskedIn scene (now (bytes .entry)) e looks r ⌝ }
+    requires { ⌜ Ready scene (now bytes) × Bounded 1 e × Countable 1 looks ⌝ }
+    ensures { λ r. ⌜ MinusAsked (probeOf scene (now (bytes .entry))) e looks r ⌝ }
 {
     let s = scene.signs;
     let u = lay_minus(s, e);
@@ -57,8 +57,8 @@ fn ask_minus(scene: Scene, bytes: &[u8], e: Vector, looks: u32) -> Falls
 
 // Minus the unit vector e doesn't fall, so its opposite is asked too: refusal 7 if that falls, else the axis is level.
 fn ask_opposite(scene: Scene, bytes: &[u8], e: Vector, looks: u32) -> AxisAnswer
-    requires { ⌜ Ready scene (now bytes) × Bounded 1 e × (looks ≤ 4000) ⌝ }
-    ensures { λ r. ⌜ OppositeAskedIn scene (now (bytes .entry)) e looks r ⌝ }
+    requires { ⌜ Ready scene (now bytes) × Bounded 1 e × Countable 1 looks ⌝ }
+    ensures { λ r. ⌜ OppositeAsked (probeOf scene (now (bytes .entry))) e looks r ⌝ }
 {
     let s = scene.signs;
     let u = space::lay(s, e);
@@ -75,8 +75,8 @@ fn ask_opposite(scene: Scene, bytes: &[u8], e: Vector, looks: u32) -> AxisAnswer
 
 // Whether the axis of the unit vector e is level, once minus e was asked.
 fn judge_axis(scene: Scene, bytes: &[u8], e: Vector, asked: Falls) -> AxisAnswer
-    requires { ⌜ Ready scene (now bytes) × Bounded 1 e × (looksOf asked ≤ 4000) ⌝ }
-    ensures { λ r. ⌜ AxisJudgedIn scene (now (bytes .entry)) e asked r ⌝ }
+    requires { ⌜ Ready scene (now bytes) × Bounded 1 e × Countable 1 (fallsLooks asked) ⌝ }
+    ensures { λ r. ⌜ AxisJudged (probeOf scene (now (bytes .entry))) e asked r ⌝ }
 {
     match asked {
         Falls::Fell(n) => AxisAnswer::Asked(false, n),
@@ -88,7 +88,7 @@ fn judge_axis(scene: Scene, bytes: &[u8], e: Vector, asked: Falls) -> AxisAnswer
 // Refusal 7, with the place as for axis 0, if all three are level.
 fn judge_levels(scene: Scene, level: Levels, looks: u32) -> Start
     requires { ⌜ Bounded 1000000000 (scene .apex) × Signs (scene .signs) ⌝ }
-    ensures { λ r. ⌜ LevelsJudgedIn scene level looks r ⌝ }
+    ensures { λ r. ⌜ LevelsJudged (scene .apex) (scene .signs) level looks r ⌝ }
 {
     if level.x & (level.y & level.z) {
         let seven = refuse_axis(scene, Vector { x: 1, y: 0, z: 0 }, looks);
@@ -100,8 +100,8 @@ fn judge_levels(scene: Scene, level: Levels, looks: u32) -> Start
 
 // Axis 0, 1, 2. A question and its judgement are two calls: in one, an axis is compiled as a function of its own that calls the question, and typical picks take 4 to 11% longer.
 fn ask_axes(scene: Scene, bytes: &[u8], looks: u32) -> Start
-    requires { ⌜ Ready scene (now bytes) × (looks ≤ 2) ⌝ }
-    ensures { λ r. ⌜ AxesAskedIn scene (now (bytes .entry)) looks r ⌝ }
+    requires { ⌜ Ready scene (now bytes) × Countable 6 looks ⌝ }
+    ensures { λ r. ⌜ AxesAsked (probeOf scene (now (bytes .entry))) looks r ⌝ }
 {
     let e0 = Vector { x: 1, y: 0, z: 0 };
     let a = judge_axis(scene, bytes, e0, ask_minus(scene, bytes, e0, looks));
@@ -131,7 +131,7 @@ fn ask_axes(scene: Scene, bytes: &[u8], looks: u32) -> Start
 // Look at p, then, if p is filled, q; then the axes.
 pub fn start_at(scene: Scene, bytes: &[u8], p: Vector) -> Start
     requires { ⌜ Ready scene (now bytes) ⌝ }
-    ensures { λ r. ⌜ StartedIn scene (now (bytes .entry)) p r ⌝ }
+    ensures { λ r. ⌜ Started (probeOf scene (now (bytes .entry))) p r ⌝ }
 {
     let solid = scene.solid;
     let q = scene.apex;

@@ -1,4 +1,4 @@
--- Each way out of `put_number` and of `put_signed`.
+-- Each way out of `put_number`: the one digit, or the digits of n / 10 and the last.
 use mathlib.Core.Path.{_≡_, sym, ap, _∙_}
 use mathlib.Core.List.{List, [], _∷_, _++_}
 use Prim.Native.Nat.{ℕ, _/_, _≤_, _<_}

@@ -10,7 +10,7 @@ use mir.Syntax.{w32}
 use mir.Val.{SFits, toZ, ofZ}
 use mir.Facts.{toZ-ofZ}
 use Rattle.integers.specs.Order.{parts}
-use Rattle.integers.specs.Machine.{machine, typed, told, lt-yes, lt-no}
+use Rattle.integers.specs.Machine.{machine, typed, without-bits, lt-yes, lt-no}
 use Rattle.rules.specs.Decimals.{decimal, signedDecimal}
 use Rattle.text.specs.Put.{Room, Put}
 use Rattle.text.specs.Puts.{put-then, put-as, room-first, room-then, room-as}
@@ -26,7 +26,7 @@ from-zero (negsuc n) e = let h = lt-no (negsuc n) (pos 0) e in absurd (omega (ar
 module _ {z : ℤ} (s : SFits w32 z) where
   module _ (t : ltZ (toZ w32 (ofZ w32 z)) (pos 0) ≡ true) where
     minus : 45 ∷ decimal (natAbs z) ≡ signedDecimal z
-    minus = sym (below-zero z (told t (search (machine, typed) depth 30 fits 5000) tt))
+    minus = sym (below-zero z (without-bits t (search (machine, typed) depth 30 fits 5000) tt))
 
     pub room-minus : {out : List ℕ} {at : ℕ} → Room out at (signedDecimal z) → Room out at (45 ∷ [])
     room-minus r = room-first (45 ∷ []) (decimal (natAbs z)) (room-as minus r)
@@ -43,7 +43,7 @@ module _ {z : ℤ} (s : SFits w32 z) where
 
   module _ (t : ltZ (toZ w32 (ofZ w32 z)) (pos 0) ≡ false) {size : ℕ} (e : size ≡ natAbs (toZ w32 (ofZ w32 z))) where
     alone : decimal size ≡ signedDecimal z
-    alone = ap decimal (e ∙ ap natAbs (toZ-ofZ s)) ∙ sym (from-zero z (told t (search (machine, typed) depth 30 fits 5000) tt))
+    alone = ap decimal (e ∙ ap natAbs (toZ-ofZ s)) ∙ sym (from-zero z (without-bits t (search (machine, typed) depth 30 fits 5000) tt))
 
     pub room-positive : {out : List ℕ} {at : ℕ} → Room out at (signedDecimal z) → Room out at (decimal size)
     room-positive r = room-as alone r

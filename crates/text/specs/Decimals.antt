@@ -1,15 +1,20 @@
--- Laws of decimal numbers: their digits one at a time, and how many there are.
+-- Laws of decimal numbers: a digit's byte, the digits one at a time, and how many there are.
 use mathlib.Core.Path.{_≡_, refl, sym, ap, _∙_}
 use mathlib.Core.Bool.{Bool, true, false}
 use mathlib.Core.List.{List, [], _∷_, _++_}
 use Prim.Native.Nat.{ℕ, zero, suc, _/_, _^_, _≤_, _<_}
 use native.Mathlib.Nat.{pow-suc}
 use native.Mathlib.Omega.{arith}
-use lib.Dec.{ltb}
+use lib.Dec.{leb, ltb}
 use lib.IntN.{ℤ, pos, negsuc, natAbs}
 use lib.ListN.{length, length-append}
-use borrow.Author.Tests.{lt-ltb, le-ltb, ltb-true, ltb-false}
-use Rattle.rules.specs.Decimals.{figure, digits, decimal, signedDecimal}
+use borrow.Author.Tests.{lt-ltb, le-ltb, leb-true, ltb-true, ltb-false}
+use Rattle.integers.specs.Tests.{first-of, second-of}
+use Rattle.rules.specs.Decimals.{isDigit, figure, digits, decimal, signedDecimal}
+
+pub digit-range : (b : ℕ) → isDigit b ≡ true → (48 ≤ b) × (b ≤ 57)
+unfolding isDigit
+digit-range b e = (leb-true 48 b (first-of (leb 48 b) (leb b 57) e), leb-true b 57 (second-of (leb 48 b) (leb b 57) e))
 
 one-digit : (f n : ℕ) → n < 10 → digits f n ≡ figure n ∷ []
 unfolding digits

@@ -1,3 +1,4 @@
+pub mod Places
 pub mod Put
 pub mod Puts
 pub mod Decimals

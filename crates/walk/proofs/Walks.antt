@@ -8,45 +8,42 @@ use mathlib.Core.Bool.{Bool, true}
 use lib.Dec.{T}
 use lib.IntN.{pos}
 use Rattle.rules.specs.declared.Vector.{Vector}
-use Rattle.rules.specs.declared.Look.{Look}
 use Rattle.rules.specs.declared.Levels.{Levels}
 use Rattle.rules.specs.declared.Triangle.{Triangle}
 use Rattle.rules.specs.declared.Pair.{Pair}
 use Rattle.rules.specs.declared.Choice.the-variants.{Nothing, Chosen}
 use Rattle.rules.specs.declared.Refused.{Refused}
 use Rattle.rules.specs.Vectors.{det, cross, dot}
-use Rattle.rules.specs.Solids.{look}
-use Rattle.rules.specs.Walk.{Stop, stop, powers, units, pairs, step, round, walk}
+use Rattle.rules.specs.Walk.{Stop, stop, units, pairs, step, Probe, round, walk, rounds}
 use Rattle.laws.specs.Triples.{All, detOf, step-det}
 use Rattle.laws.specs.Boxes.{look-inside, units-within, chosen-within}
 use Rattle.laws.specs.Ranges.{Bounded}
-use Rattle.falls.specs.Tally.{Tally, yes, no, Gives}
-use Rattle.falls.proofs.Tallies.{then-yes, then-no, asked-yes, asked-no, at-once, refused-at-once, was-answered}
+use Rattle.laws.specs.Tally.{Tally, yes, no, Gives, then-yes, then-no, asked-yes, asked-no, at-once, refused-at-once, was-answered}
 use Rattle.falls.specs.declared.Scene.{Scene}
-use Rattle.falls.specs.Scene.{Ready}
+use Rattle.falls.specs.Scene.{probeOf, Ready}
 use Rattle.round.specs.declared.Best.{Best}
 use Rattle.round.specs.declared.Round.{Round}
 use Rattle.round.specs.declared.Round.the-variants.{Asked as IsAsked, Stopped}
-use Rattle.round.specs.Round.{Sound, told as toldRound, looksOf, taking, RoundAsked}
+use Rattle.round.specs.Round.{Sound, roundTally, roundLooks, taking, RoundAsked}
 use Rattle.walk.specs.declared.Walked.the-variants.{Ended, Refused as IsRefused}
 use Rattle.walk.specs.Walk.{refusalOf, allowed, Walks, Walking}
 
-module _ (look : Vector → Look) (q s : Vector) (ls : List ℕ) (ps : List Pair) (m : Triangle) (n k : ℕ) where
-  walk-stopped : (left : ℕ) {p : Vector} {j : ℕ} → Gives k (round look q s ls ps m) (no p j) → Gives k (walk look q s ls ps left n m) (no (stop 8 p n) j)
+module _ (c : Probe) (ps : List Pair) (m : Triangle) (n k : ℕ) where
+  walk-stopped : (left : ℕ) {p : Vector} {j : ℕ} → Gives k (round c ps m) (no p j) → Gives k (walk c ps left n m) (no (stop 8 p n) j)
   unfolding walk
   walk-stopped zero h = then-no _ (asked-no n h)
   walk-stopped (suc left) h = then-no _ (asked-no n h)
 
-  walk-ended : (left : ℕ) {j : ℕ} → Gives k (round look q s ls ps m) (yes Nothing j) → Gives k (walk look q s ls ps left n m) (yes (m, n) j)
+  walk-ended : (left : ℕ) {j : ℕ} → Gives k (round c ps m) (yes Nothing j) → Gives k (walk c ps left n m) (yes (m, n) j)
   unfolding walk
   walk-ended zero h = then-yes _ (asked-yes n h) at-once
   walk-ended (suc left) h = then-yes _ (asked-yes n h) at-once
 
-  walk-spent : {x : Pair} {j : ℕ} → Gives k (round look q s ls ps m) (yes (Chosen x) j) → Gives k (walk look q s ls ps zero n m) (no (stop 9 q n) j)
+  walk-spent : {x : Pair} {j : ℕ} → Gives k (round c ps m) (yes (Chosen x) j) → Gives k (walk c ps zero n m) (no (stop 9 (c .apex) n) j)
   unfolding walk
   walk-spent h = then-yes _ (asked-yes n h) refused-at-once
 
-  walk-on : (left : ℕ) {x : Pair} {j : ℕ} {r : Tally Stop (Triangle × ℕ)} → Gives k (round look q s ls ps m) (yes (Chosen x) j) → Gives j (walk look q s ls ps left (suc n) (step m x)) r → Gives k (walk look q s ls ps (suc left) n m) r
+  walk-on : (left : ℕ) {x : Pair} {j : ℕ} {r : Tally Stop (Triangle × ℕ)} → Gives k (round c ps m) (yes (Chosen x) j) → Gives j (walk c ps left (suc n) (step m x)) r → Gives k (walk c ps (suc left) n m) r
   unfolding walk
   walk-on left h g = then-yes _ (asked-yes n h) g
 
@@ -61,41 +58,42 @@ units-sound = sound-of units-within refl
 yes-true : {b : Bool} → b ≡ true → T b
 yes-true e = rw e tt
 
-step-sound : {v : Scene} {bytes : List ℕ} (ps : List Pair) {m : Triangle} {x : Pair} {n k : ℕ} → Ready v bytes → Sound m → Gives n (round (look (v .solid) bytes) (v .apex) (v .signs) (powers (v .reach)) ps m) (yes (Chosen x) k) → Sound (step m x)
+step-sound : {v : Scene} {bytes : List ℕ} (ps : List Pair) {m : Triangle} {x : Pair} {n k : ℕ} → Ready v bytes → Sound m → Gives n (round (probeOf v bytes) ps m) (yes (Chosen x) k) → Sound (step m x)
 step-sound {v} {bytes} ps {m} {x} h o g =
-    let answer = was-answered (round (look (v .solid) bytes) (v .apex) (v .signs) (powers (v .reach)) ps m) g in
+    let answer = was-answered (round (probeOf v bytes) ps m) g in
     sound-of
     (chosen-within (v .solid) bytes (v .apex) (v .signs) (v .reach) ps m (yes-true (h .permitted .is)) (yes-true (look-inside (v .solid) bytes (v .apex) ∙ h .placed .is)) (h .signed) x (answer .1)
     record { of0 = o .in0; of1 = o .in1; of2 = o .in2 })
     (step-det m x ∙ o .unimodular)
 
 -- ---- the loop: from what holds before a round and what the round promised, to what holds after it
-pub walk-begins : {look : Vector → Look} {q s : Vector} {reach : ℕ} {level : Levels} {looks : ℕ} {m : Triangle} → reach ≤ 256 → looks ≤ 4000 → m ≡ units → Walking look q s reach level looks m 0 looks
-walk-begins {reach = reach} {level} high h e = record {
+pub walk-begins : {c : Probe} {R : ℕ} {level : Levels} {looks : ℕ} {m : Triangle} → R ≤ 256 → m ≡ units → Walking c R level looks m 0 looks
+unfolding rounds
+walk-begins {R = R} {level} high e = record {
   sound = rw e units-sound;
   low = omega arith;
   high = high;
   few = omega arith;
-  rest = λ g. let z : allowed reach level - 0 ≡ allowed reach level = omega arith in rw (z, e) at g;
+  rest = λ g. let z : allowed R level - 0 ≡ allowed R level = omega arith in rw (z, e) at g;
 }
 
-module _ {look : Vector → Look} {q s : Vector} {reach : ℕ} {level : Levels} {looks : ℕ} {m : Triangle} {steps n : ℕ} {r : Round} (h : Walking look q s reach level looks m steps n) (g : RoundAsked look q s reach m level n r) where
+module _ {c : Probe} {R : ℕ} {level : Levels} {looks : ℕ} {m : Triangle} {steps n : ℕ} {r : Round} (h : Walking c R level looks m steps n) (g : RoundAsked c m level n r) where
   -- what the round gave, once its answer is known
-  round-gave : {t : Round} → r ≡ t → Gives n (round look q s (powers reach) (taking level pairs) m) (toldRound t)
+  round-gave : {t : Round} → r ≡ t → Gives n (round c (taking level pairs) m) (roundTally t)
   round-gave e = rw e at (g .gives)
 
-  pub walks-stopped : {p : Vector} {k : ℕ} {a : Refused} → r ≡ Stopped p k → a ≡ refusalOf 8 p steps k → Walks look q s reach level looks (IsRefused a)
-  walks-stopped e f = record { gives = rw f (h .rest (walk-stopped look q s (powers reach) (taking level pairs) m steps n (allowed reach level - steps) (round-gave e))); sound = tt }
+  pub walks-stopped : {p : Vector} {k : ℕ} {a : Refused} → r ≡ Stopped p k → a ≡ refusalOf 8 p steps k → Walks c R level looks (IsRefused a)
+  walks-stopped e f = record { gives = rw f (h .rest (walk-stopped c (taking level pairs) m steps n (allowed R level - steps) (round-gave e))); sound = tt }
 
-  pub walks-ended : {b : Best} {k : ℕ} → r ≡ IsAsked b k → b .choice ≡ Nothing → Walks look q s reach level looks (Ended m steps k)
-  walks-ended e f = record { gives = h .rest (walk-ended look q s (powers reach) (taking level pairs) m steps n (allowed reach level - steps) (rw f at (round-gave e))); sound = h .sound }
+  pub walks-ended : {b : Best} {k : ℕ} → r ≡ IsAsked b k → b .choice ≡ Nothing → Walks c R level looks (Ended m steps k)
+  walks-ended e f = record { gives = h .rest (walk-ended c (taking level pairs) m steps n (allowed R level - steps) (rw f at (round-gave e))); sound = h .sound }
 
-  pub walks-spent : {b : Best} {x : Pair} {k limit : ℕ} {a : Refused} → limit ≡ allowed reach level → r ≡ IsAsked b k → b .choice ≡ Chosen x → steps ≡ limit → a ≡ refusalOf 9 q steps k → Walks look q s reach level looks (IsRefused a)
+  pub walks-spent : {b : Best} {x : Pair} {k limit : ℕ} {a : Refused} → limit ≡ allowed R level → r ≡ IsAsked b k → b .choice ≡ Chosen x → steps ≡ limit → a ≡ refusalOf 9 (c .apex) steps k → Walks c R level looks (IsRefused a)
   walks-spent l e f z i =
-      let none : allowed reach level - steps ≡ 0 = omega arith in
-      record { gives = rw i (h .rest (rw none (walk-spent look q s (powers reach) (taking level pairs) m steps n (rw f at (round-gave e))))); sound = tt }
+      let none : allowed R level - steps ≡ 0 = omega arith in
+      record { gives = rw i (h .rest (rw none (walk-spent c (taking level pairs) m steps n (rw f at (round-gave e))))); sound = tt }
 
-pub walks-on : {v : Scene} {bytes : List ℕ} {level : Levels} {looks : ℕ} {m next : Triangle} {steps n : ℕ} {r : Round} {b : Best} {x : Pair} {k limit : ℕ} → Ready v bytes → limit ≡ allowed (v .reach) level → Walking (look (v .solid) bytes) (v .apex) (v .signs) (v .reach) level looks m steps n → RoundAsked (look (v .solid) bytes) (v .apex) (v .signs) (v .reach) m level n r → r ≡ IsAsked b k → b .choice ≡ Chosen x → (steps ≡ limit → ⊥) → next ≡ step m x → Walking (look (v .solid) bytes) (v .apex) (v .signs) (v .reach) level looks next (steps + 1) k
+pub walks-on : {v : Scene} {bytes : List ℕ} {level : Levels} {looks : ℕ} {m next : Triangle} {steps n : ℕ} {r : Round} {b : Best} {x : Pair} {k limit : ℕ} → Ready v bytes → limit ≡ allowed (v .reach) level → Walking (probeOf v bytes) (v .reach) level looks m steps n → RoundAsked (probeOf v bytes) m level n r → r ≡ IsAsked b k → b .choice ≡ Chosen x → (steps ≡ limit → ⊥) → next ≡ step m x → Walking (probeOf v bytes) (v .reach) level looks next (steps + 1) k
 walks-on {v} {bytes} {level} {looks} {m} {next} {steps} {n} {r} {b} {x} {k} {limit} ready l h g e f z i =
     let left : allowed (v .reach) level - steps ≡ suc (allowed (v .reach) level - suc steps) = omega (arith, h .low) in
     let gave = rw f at (round-gave h g e) in
@@ -103,8 +101,8 @@ walks-on {v} {bytes} {level} {looks} {m} {next} {steps} {n} {r} {b} {x} {k} {lim
       sound = rw i (step-sound (taking level pairs) ready (h .sound) gave);
       low = omega (arith, h .low);
       high = h .high;
-      few = omega (arith, h .few, g .few, ap looksOf e);
-      rest = λ t. h .rest (rw left (walk-on (look (v .solid) bytes) (v .apex) (v .signs) (powers (v .reach)) (taking level pairs) m steps n (allowed (v .reach) level - suc steps) gave (rw (i, add-one) at t)));
+      few = omega (arith, h .few, g .few, ap roundLooks e);
+      rest = λ t. h .rest (rw left (walk-on (probeOf v bytes) (taking level pairs) m steps n (allowed (v .reach) level - suc steps) gave (rw (i, add-one) at t)));
     }
 
 pub ruleset walks = (walks-stopped, walks-ended, walks-spent)

@@ -1,17 +1,14 @@
 -- What `walk_on` ensures settles its answer: the end of a walk is made again of what it tells.
 use mathlib.Core.Path.{_≡_, refl}
 use Prim.Native.Nat.{ℕ}
-use Rattle.rules.specs.declared.Vector.{Vector}
-use Rattle.rules.specs.declared.Look.{Look}
 use Rattle.rules.specs.declared.Levels.{Levels}
 use Rattle.rules.specs.declared.Triangle.{Triangle}
 use Rattle.rules.specs.declared.Refused.{Refused}
-use Rattle.rules.specs.Walk.{Stop}
-use Rattle.falls.specs.Tally.{Tally, yes, no}
-use Rattle.falls.specs.Settled.{told-settled}
+use Rattle.rules.specs.Walk.{Stop, Probe}
+use Rattle.laws.specs.Tally.{Tally, yes, no, gives-settled}
 use Rattle.walk.specs.declared.Walked.{Walked}
 use Rattle.walk.specs.declared.Walked.the-variants.{Ended, Refused as IsRefused}
-use Rattle.walk.specs.Walk.{refusalOf, told, Walks}
+use Rattle.walk.specs.Walk.{refusalOf, walkTally, Walks}
 
 abbrev pub refusalMade : Stop → ℕ → Refused
 refusalMade s looks = refusalOf (s .number) (s .place) (s .steps) looks
@@ -20,10 +17,10 @@ made : Tally Stop (Triangle × ℕ) → Walked
 made (yes e k) = Ended (e .0) (e .1) k
 made (no s k) = IsRefused (refusalMade s k)
 
-made-again : (r : Walked) → made (told r) ≡ r
+made-again : (r : Walked) → made (walkTally r) ≡ r
 unfolding made
 made-again (Ended m n k) = refl
 made-again (IsRefused r) = refl
 
-pub walks-settled : {look : Vector → Look} {q s : Vector} {reach : ℕ} {level : Levels} {looks : ℕ} {r t : Walked} → Walks look q s reach level looks r → Walks look q s reach level looks t → r ≡ t
-walks-settled {r = r} {t} h k = told-settled made (made-again r) (made-again t) (h .gives) (k .gives)
+pub walks-settled : {c : Probe} {R : ℕ} {level : Levels} {looks : ℕ} {r t : Walked} → Walks c R level looks r → Walks c R level looks t → r ≡ t
+walks-settled {r = r} {t} h k = gives-settled made (made-again r) (made-again t) (h .gives) (k .gives)

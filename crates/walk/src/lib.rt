@@ -1,10 +1,10 @@
 // The walk: rounds and steps until no pair falls.
 ghost use mathlib.Core.Path.{_≡_};
-ghost use Prim.Native.Nat.{_≤_};
 ghost use lib.ListN.{length};
 ghost use Rattle.rules.specs.Walk.{units, remaining};
-ghost use Rattle.falls.specs.Scene.{Ready};
-ghost use Rattle.walk.specs.Walk.{refusalOf, allowed, WalksIn};
+ghost use Rattle.laws.specs.Tally.{Countable};
+ghost use Rattle.falls.specs.Scene.{probeOf, Ready};
+ghost use Rattle.walk.specs.Walk.{refusalOf, allowed, Walks};
 use falls::Scene;
 use round::Round;
 use rules::Choice;
@@ -58,8 +58,8 @@ fn steps_allowed(reach: u32, level: Levels) -> u32
 
 // Begin with the unit vectors and zero steps.
 pub fn walk_on(scene: Scene, bytes: &[u8], level: Levels, looks: u32) -> Walked
-    requires { ⌜ Ready scene (now bytes) × (looks ≤ 4000) ⌝ }
-    ensures { λ r. ⌜ WalksIn scene (now (bytes .entry)) level looks r ⌝ }
+    requires { ⌜ Ready scene (now bytes) × Countable 1542 looks ⌝ }
+    ensures { λ r. ⌜ Walks (probeOf scene (now (bytes .entry))) (scene .reach) level looks r ⌝ }
 {
     let q = scene.apex;
     let limit = steps_allowed(scene.reach, level);

@@ -4,13 +4,15 @@ use Rattle.display.proofs.Answers.{promise-back, dark-zero, dark-outsid
 use Rattle.display.proofs.display_normal.Statement.{statement}
 use Rattle.display.proofs.display_normal.Tie as tie
 
+ruleset all-zero = (promise-back, dark-zero)
+
+ruleset out-of-range = (promise-back, dark-outside)
+
+ruleset shown = (promise-back, shows)
+
 pub display-normal-spec : {M : Type 1} → statement M
 display-normal-spec =
     tie.close
     (tie.spec
-    (λ c κs. search needs)
-    (λ c. search (promise-back, dark-zero))
-    (λ c κs. search needs)
-    (λ c κs. search lit-asks)
-    (λ c. search (promise-back, shows))
-    (λ c. search (promise-back, dark-outside)))
+    (λ c κs. search needs) (λ c. search all-zero)
+    (λ c κs. search needs) (λ c κs. search lit-asks) (λ c. search shown) (λ c. search out-of-range))

@@ -7,7 +7,4 @@ pub lit-spec : {M : Type 1} → statement M
 lit-spec =
     tie.close
     (tie.spec
-    (λ c κs. search part-back)
-    (λ c κs. search part-back)
-    (λ c κs. search part-back)
-    (λ c. search lit-is))
+    (λ c κs. search part-back) (λ c κs. search part-back) (λ c κs. search part-back) (λ c. search lit-is))

@@ -18,6 +18,22 @@ abbrev μ-loop : tie.MeasureT-loop
 middle : (c : tie.In-loop Inv-loop μ-loop) → c .before .loop .low + (c .before .loop .high - c .before .loop .low) / 2 ≤ 32769
 middle c = omega arith
 
+square-fits : tie.Need-mul-if1 Inv-loop μ-loop
+square-fits c = fits-le (mul-le-mul (middle c) (middle c)) (fits-lit tt)
+
+product-fits : tie.Need-mul-if1-2 Inv-loop μ-loop
+product-fits c = fits-le (mul-le-mul (mul-le-mul (middle c) (middle c)) (c .before .before .pre .small)) (fits-lit tt)
+
+-- ---- the invariant: at the start, and with the middle for low or for high
+starts : tie.Need-loop-holds Inv-loop μ-loop
+starts c = (omega arith, omega arith, omega arith, c .pre .low)
+
+low-rises : tie.Need-loop-again Inv-loop μ-loop
+low-rises c = (omega arith, omega arith, c .if1 .taken, omega arith)
+
+high-falls : tie.Need-loop-again-2 Inv-loop μ-loop
+high-falls c = (omega arith, omega arith, omega arith, c .if1 .left)
+
 returns : tie.Need-returns Inv-loop μ-loop
 returns c =
     let v = c .before .loop .inv in
@@ -33,16 +49,8 @@ root-spec =
     (tie.spec
     Inv-loop
     μ-loop
-    (λ c. (omega arith, omega arith, omega arith, c .pre .low))
-    (λ c. omega arith)
-    (λ c. omega arith)
-    (λ c. omega arith)
-    (λ c. omega arith)
-    (λ c. fits-le (mul-le-mul (middle c) (middle c)) (fits-lit tt))
-    (λ c. fits-le (mul-le-mul (mul-le-mul (middle c) (middle c)) (c .before .before .pre .small)) (fits-lit tt))
-    (λ c. omega arith)
-    (λ c. (omega arith, omega arith, c .if1 .taken, omega arith))
-    (λ c. omega arith)
-    (λ c. (omega arith, omega arith, omega arith, c .if1 .left))
-    (λ c. omega arith)
-    returns)
+    starts
+    (λ c. omega arith) (λ c. omega arith) (λ c. omega arith) (λ c. omega arith) square-fits product-fits
+    (λ c. omega arith) low-rises
+    (λ c. omega arith) high-falls
+    (λ c. omega arith) returns)

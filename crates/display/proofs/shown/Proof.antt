@@ -10,6 +10,4 @@ shown-spec =
     tie.close
     (tie.spec
     (λ c κs. search part-back)
-    (λ c κs. search needs)
-    (λ c. search shown-below)
-    (λ c. search shown-from-zero))
+    (λ c κs. search needs) (λ c. search shown-below) (λ c. search shown-from-zero))

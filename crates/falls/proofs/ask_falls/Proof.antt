@@ -5,7 +5,7 @@ use borrow.Author.Needs.{needs}
 use Rattle.rules.specs.Solids.{look}
 use Rattle.falls.specs.Falls.{Falling}
 use Rattle.falls.proofs.Powers.{way-fits, falls-begins, looked}
-use Rattle.falls.proofs.Scenes.{apex-fits}
+use Rattle.falls.specs.Sizes.{apex-fits}
 use Rattle.falls.proofs.ask_falls.Statement.{statement}
 use Rattle.falls.proofs.ask_falls.Tie as tie
 
@@ -23,16 +23,7 @@ ask-falls-spec =
     μ-loop
     (λ c. search falls-begins)
     (λ c κs. (apex-fits (c .before .before .before .pre .0), way-fits (c .loop .inv)))
-    (λ c κs. search needs)
-    (λ c. search needs)
-    (λ c. search needs)
-    (λ c. omega arith)
-    (λ c. search needs)
-    (λ c. omega arith)
-    (λ c. omega arith)
+    (λ c κs. search needs) (λ c. search needs) (λ c. search needs) (λ c. omega arith) (λ c. search needs)
+    (λ c. omega arith) (λ c. omega arith)
     (λ c κs. let h = way-fits (c .before .before .before .before .before .loop .inv) in (h, h))
-    (λ c. omega arith)
-    (λ c. search looked)
-    (λ c. search looked)
-    (λ c. search looked)
-    (λ c. search looked))
+    (λ c. omega arith) (λ c. search looked) (λ c. search looked) (λ c. search looked) (λ c. search looked))

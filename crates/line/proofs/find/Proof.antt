@@ -2,7 +2,7 @@
 use Prim.Native.Nat.{_-_}
 use native.Mathlib.Omega.{arith}
 use lib.ListN.{length}
-use Rattle.line.proofs.Finding.{Finding, finding-starts, finding-more, found-mark, found-end}
+use Rattle.line.proofs.Finding.{Finding, finding-starts, finding-more, ends-at-mark, ends-with-text}
 use Rattle.line.proofs.find.Statement.{statement}
 use Rattle.line.proofs.find.Tie as tie
 
@@ -19,9 +19,5 @@ find-spec =
     Inv-loop
     μ-loop
     (λ c. search finding-starts)
-    (λ c. omega arith)
-    (λ c. search found-mark)
-    (λ c. omega arith)
-    (λ c. omega arith)
-    (λ c. search finding-more)
-    (λ c. search found-end))
+    (λ c. omega arith) (λ c. search ends-at-mark)
+    (λ c. omega arith) (λ c. omega arith) (λ c. search finding-more) (λ c. search ends-with-text))

@@ -8,12 +8,7 @@ pub negative-spec : {M : Type 1} → statement M
 negative-spec =
     tie.close
     (tie.spec
-    (λ c. search needs)
-    (λ c. search negative-zero)
-    (λ c. search needs)
-    (λ c. search needs)
-    (λ c. search opposite-fits)
-    (λ c. search negative-whole)
-    (λ c. search needs)
-    (λ c. search negative-outside)
+    (λ c. search needs) (λ c. search negative-zero)
+    (λ c. search needs) (λ c. search needs) (λ c. search opposite-fits) (λ c. search negative-whole)
+    (λ c. search needs) (λ c. search negative-outside)
     (λ c. search needs))

@@ -8,9 +8,6 @@ pub positive-spec : {M : Type 1} → statement M
 positive-spec =
     tie.close
     (tie.spec
-    (λ c. search needs)
-    (λ c. search needs)
-    (λ c. search positive-whole)
-    (λ c. search needs)
-    (λ c. search positive-outside)
+    (λ c. search needs) (λ c. search needs) (λ c. search positive-whole)
+    (λ c. search needs) (λ c. search positive-outside)
     (λ c. search needs))

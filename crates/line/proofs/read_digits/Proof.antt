@@ -19,17 +19,7 @@ read-digits-spec =
     (tie.spec
     Inv-loop
     μ-loop
-    (λ c. search none)
-    (λ c. search too-many)
-    (λ c. search reading-starts)
-    (λ c. omega arith)
-    (λ c κs. search needs)
-    (λ c. search tenfold-fits)
-    (λ c. search digit-low)
-    (λ c. search digit-fits)
-    (λ c. search next-fits)
-    (λ c. omega arith)
-    (λ c. omega arith)
-    (λ c. search reading-more)
-    (λ c. search no-digit)
-    (λ c. search all-read))
+    (λ c. search none) (λ c. search too-many) (λ c. search reading-starts)
+    (λ c. omega arith) (λ c κs. search needs) (λ c. search tenfold-fits) (λ c. search digit-low)
+    (λ c. search digit-fits) (λ c. search next-fits)
+    (λ c. omega arith) (λ c. omega arith) (λ c. search reading-more) (λ c. search no-digit) (λ c. search all-read))

@@ -4,22 +4,15 @@ use Rattle.line.proofs.Nines.{no-first-three, no-second-three, no-third
 use Rattle.line.proofs.read_line.Statement.{statement}
 use Rattle.line.proofs.read_line.Tie as tie
 
+nine-numbers : tie.Need-returns-5
+nine-numbers c = let earlier = c .before .before .before .before .before .before in search asks
+
 pub read-line-spec : {M : Type 1} → statement M
 read-line-spec =
     tie.close
     (tie.spec
-    (λ c κs. search needs)
-    (λ c. search needs)
-    (λ c. search needs)
-    (λ c. search no-first-three)
-    (λ c κs. search needs)
-    (λ c. search needs)
-    (λ c. search needs)
-    (λ c. search no-second-three)
-    (λ c κs. search needs)
-    (λ c. search needs)
-    (λ c. search needs)
-    (λ c. search no-third-three)
+    (λ c κs. search needs) (λ c. search needs) (λ c. search needs) (λ c. search no-first-three)
+    (λ c κs. search needs) (λ c. search needs) (λ c. search needs) (λ c. search no-second-three)
+    (λ c κs. search needs) (λ c. search needs) (λ c. search needs) (λ c. search no-third-three)
     (λ c. search more-behind)
-    (λ c κs. search needs)
-    (λ c. let earlier = c .before .before .before .before .before .before in search asks))
+    (λ c κs. search needs) nine-numbers)

@@ -9,13 +9,6 @@ read-number-spec =
     tie.close
     (tie.spec
     (λ c. search empty)
-    (λ c. search needs)
-    (λ c. search needs)
-    (λ c. search needs)
-    (λ c. search needs)
-    (λ c κs. search needs)
-    (λ c κs. search needs)
-    (λ c. search with-minus)
-    (λ c κs. search needs)
-    (λ c κs. search needs)
-    (λ c. search without-minus))
+    (λ c. search needs) (λ c. search needs) (λ c. search needs) (λ c. search needs) (λ c κs. search needs)
+    (λ c κs. search needs) (λ c. search with-minus)
+    (λ c κs. search needs) (λ c κs. search needs) (λ c. search without-minus))

@@ -8,16 +8,6 @@ pub read-three-spec : {M : Type 1} → statement M
 read-three-spec =
     tie.close
     (tie.spec
-    (λ c κs. search needs)
-    (λ c. search needs)
-    (λ c. search needs)
-    (λ c. search no-first)
-    (λ c κs. search needs)
-    (λ c. search needs)
-    (λ c. search needs)
-    (λ c. search no-second)
-    (λ c κs. search needs)
-    (λ c. search needs)
-    (λ c. search needs)
-    (λ c. search no-third)
-    (λ c. search all-three))
+    (λ c κs. search needs) (λ c. search needs) (λ c. search needs) (λ c. search no-first)
+    (λ c κs. search needs) (λ c. search needs) (λ c. search needs) (λ c. search no-second)
+    (λ c κs. search needs) (λ c. search needs) (λ c. search needs) (λ c. search no-third) (λ c. search all-three))

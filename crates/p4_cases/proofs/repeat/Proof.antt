@@ -1,3 +1,4 @@
+-- `p4_cases::repeat` meets its contract: the loop keeps the buffer's length. The bytes left are the measure.
 use mathlib.Core.Path.{_≡_, refl}
 use Prim.Native.Nat.{_-_, _≤_}
 use native.Mathlib.Omega.{arith}
@@ -12,17 +13,21 @@ Inv-loop first word i₀ out i = (length out ≡ length first) × (i ≤ length 
 abbrev μ-loop : tie.MeasureT-loop
 μ-loop first word i₀ out i = length first - i
 
+starts : tie.Need-loop-holds Inv-loop μ-loop
+starts c = (refl, omega arith)
+
+keeps-length : tie.Need-loop-again Inv-loop μ-loop
+keeps-length c = simp length-set (omega arith)
+
+same-length : tie.Need-same-length Inv-loop μ-loop
+same-length c = c .before .loop .inv .0
+
 pub repeat-spec : {M : Type 1} → statement M
 repeat-spec =
     tie.close
     (tie.spec
     Inv-loop
     μ-loop
-    (λ c. (refl, omega arith))
-    (λ c. omega arith)
-    (λ c. omega arith)
-    (λ c. omega arith)
-    (λ c. omega arith)
-    (λ c. simp length-set (omega arith))
-    (λ c. c .before .loop .inv .0)
+    starts
+    (λ c. omega arith) (λ c. omega arith) (λ c. omega arith) (λ c. omega arith) keeps-length same-length
     (λ c. search needs))

@@ -1,3 +1,5 @@
+-- `p4_header::read_comment` meets its contract: the loop keeps `Commenting` and stops at a line end or with the input.
+-- What is left of the input is the measure.
 use Prim.Native.Nat.{_-_}
 use native.Mathlib.Omega.{arith}
 use borrow.Author.Needs.{needs}
@@ -19,11 +21,5 @@ read-comment-spec =
     Inv-loop
     μ-loop
     (λ c. search commenting-start)
-    (λ c. omega arith)
-    (λ c κs. search needs)
-    (λ c. omega arith)
-    (λ c. search commenting-closed)
-    (λ c. omega arith)
-    (λ c. omega arith)
-    (λ c. search commenting-next)
-    (λ c. search commenting-unclosed))
+    (λ c. omega arith) (λ c κs. search needs) (λ c. omega arith) (λ c. search commenting-closed)
+    (λ c. omega arith) (λ c. omega arith) (λ c. search commenting-next) (λ c. search commenting-unclosed))

@@ -1,3 +1,5 @@
+-- `p4_header::read_digits` meets its contract: the loop keeps `Counting` and stops at no digit or with the input.
+-- What is left of the input is the measure.
 use Prim.Native.Nat.{_-_}
 use native.Mathlib.Omega.{arith}
 use borrow.Author.Needs.{needs}
@@ -19,11 +21,5 @@ read-digits-spec =
     Inv-loop
     μ-loop
     (λ c. search counting-start)
-    (λ c. omega arith)
-    (λ c κs. search needs)
-    (λ c. search counting-stop)
-    (λ c κs. search counting-digit)
-    (λ c. omega arith)
-    (λ c. omega arith)
-    (λ c. search counting-next)
-    (λ c. search counting-end))
+    (λ c. omega arith) (λ c κs. search needs) (λ c. search counting-stop) (λ c κs. search counting-digit)
+    (λ c. omega arith) (λ c. omega arith) (λ c. search counting-next) (λ c. search counting-end))

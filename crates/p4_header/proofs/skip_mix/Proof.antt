@@ -1,3 +1,5 @@
+-- `p4_header::skip_mix` meets its contract: the loop keeps `Mixing`, inside a comment or not, and stops at any
+-- other byte or with the input. What is left of the input is the measure.
 use Prim.Native.Nat.{_-_}
 use native.Mathlib.Omega.{arith}
 use borrow.Author.Needs.{needs}
@@ -19,17 +21,6 @@ skip-mix-spec =
     Inv-loop
     μ-loop
     (λ c. search mixing-start)
-    (λ c. omega arith)
-    (λ c κs. search needs)
-    (λ c. omega arith)
-    (λ c. omega arith)
-    (λ c. search mixing-in)
-    (λ c κs. search needs)
-    (λ c. omega arith)
-    (λ c. omega arith)
-    (λ c. search mixing-white)
-    (λ c. search mixing-stop)
-    (λ c. omega arith)
-    (λ c. omega arith)
-    (λ c. search mixing-hash)
-    (λ c. search mixing-end))
+    (λ c. omega arith) (λ c κs. search needs) (λ c. omega arith) (λ c. omega arith) (λ c. search mixing-in)
+    (λ c κs. search needs) (λ c. omega arith) (λ c. omega arith) (λ c. search mixing-white) (λ c. search mixing-stop)
+    (λ c. omega arith) (λ c. omega arith) (λ c. search mixing-hash) (λ c. search mixing-end))

@@ -1,3 +1,5 @@
+-- `p4_header::stands` meets its contract: the loop keeps `Standing`, and stops at a byte that differs, with the input
+-- or with the word. What is left of the word is the measure.
 use Prim.Native.Nat.{_-_}
 use native.Mathlib.Omega.{arith}
 use lib.ListN.{length}
@@ -18,12 +20,6 @@ stands-spec =
     Inv-loop
     μ-loop
     (λ c. search standing-start)
-    (λ c. omega arith)
-    (λ c. search standing-short)
-    (λ c. omega arith)
-    (λ c. omega arith)
-    (λ c. search standing-not)
-    (λ c. omega arith)
-    (λ c. omega arith)
-    (λ c. search standing-next)
-    (λ c. search standing-end))
+    (λ c. omega arith) (λ c. search standing-short)
+    (λ c. omega arith) (λ c. omega arith) (λ c. search standing-not)
+    (λ c. omega arith) (λ c. omega arith) (λ c. search standing-next) (λ c. search standing-end))

@@ -1,3 +1,4 @@
+-- `p4_read::stack_of` meets its contract: sides of at most 256 are read back from their bits.
 use native.Mathlib.Omega.{arith}
 use borrow.Author.Needs.{needs}
 use mir.Syntax.{w32}

@@ -1,3 +1,4 @@
+-- `p4_rows::clear_padding` meets its contract: the loop keeps `Clearing`, a row at a time. The measure: the rows left.
 use native.Mathlib.Omega.{arith}
 use borrow.Author.Needs.{needs}
 use Rattle.p4_rows.proofs.Clearing.{Clearing, clearing-start, clearing-room, clearing-next, clearing-end}
@@ -16,17 +17,12 @@ clear-padding-spec =
     (tie.spec
     Inv-loop
     μ-loop
-    (λ c κs. search needs)
-    (λ c κs. search needs)
-    (λ c. search clearing-start)
+    (λ c κs. search needs) (λ c κs. search needs) (λ c. search clearing-start)
     (λ c. search needs)
     (λ c. let r = clearing-room (c .before .loop .inv) (c .loop-test .taken) (c .before .before .before .row-bytes .ensures) in omega arith)
     (λ c. let r = clearing-room (c .before .before .loop .inv) (c .before .loop-test .taken) (c .before .before .before .before .row-bytes .ensures) in omega arith)
     (λ c κs. search needs)
     (λ c. let r = clearing-room (c .before .before .before .loop .inv) (c .before .before .loop-test .taken) (c .before .before .before .before .before .row-bytes .ensures) in omega arith)
     (λ c. let r = clearing-room (c .before .before .before .loop .inv) (c .before .before .loop-test .taken) (c .before .before .before .before .before .row-bytes .ensures) in omega arith)
-    (λ c. omega arith)
-    (λ c. omega arith)
-    (λ c. search clearing-next)
-    (λ c. search)
-    (λ c. search clearing-end))
+    (λ c. omega arith) (λ c. omega arith) (λ c. search clearing-next)
+    (λ c. search) (λ c. search clearing-end))

@@ -1,3 +1,4 @@
+-- `p4_rows::copy_bytes` meets its contract: the loop keeps `Copying`, a byte at a time. The measure: the bytes left.
 use Prim.Native.Nat.{_-_}
 use native.Mathlib.Omega.{arith}
 use Rattle.p4_rows.proofs.Copying.{Copying, copying-start, copying-next, copying-end}
@@ -17,12 +18,6 @@ copy-bytes-spec =
     Inv-loop
     μ-loop
     (λ c. search copying-start)
-    (λ c. omega arith)
-    (λ c. omega arith)
-    (λ c. omega arith)
-    (λ c. omega arith)
-    (λ c. omega arith)
-    (λ c. omega arith)
+    (λ c. omega arith) (λ c. omega arith) (λ c. omega arith) (λ c. omega arith) (λ c. omega arith) (λ c. omega arith)
     (λ c. search copying-next)
-    (λ c. search)
-    (λ c. search copying-end))
+    (λ c. search) (λ c. search copying-end))

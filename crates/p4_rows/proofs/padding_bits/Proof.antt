@@ -1,3 +1,4 @@
+-- `p4_rows::padding_bits` meets its contract: by arithmetic.
 use borrow.Author.Needs.{needs}
 use Rattle.p4_rows.proofs.Clearing.{padding-bits}
 use Rattle.p4_rows.proofs.padding_bits.Statement.{statement}

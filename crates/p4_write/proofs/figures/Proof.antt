@@ -1,4 +1,5 @@
-use Rattle.p4_write.proofs.Sides.{one-figure, two-figures, three-figures}
+-- `p4_write::figures` meets its contract: by how many digits the side has.
+use Rattle.p4_write.proofs.Digits.{one-figure, two-figures, three-figures}
 use Rattle.p4_write.proofs.figures.Statement.{statement}
 use Rattle.p4_write.proofs.figures.Tie as tie
 

@@ -1,6 +1,6 @@
 -- `pick::end_walk` meets its contract: by whether the sizes of the normal add to more than the reach.
 use borrow.Author.Needs.{needs}
-use Rattle.falls.proofs.Scenes.{signs-bounded}
+use Rattle.falls.specs.Sizes.{signs-bounded}
 use Rattle.pick.proofs.Ends.{whole-fits, levelled-fits}
 use Rattle.pick.proofs.Answers.{answering}
 use Rattle.pick.proofs.end_walk.Statement.{statement}
@@ -24,9 +24,5 @@ end-walk-spec =
     (tie.spec
     (λ c κs. search needs)
     (λ c κs. whole-fits (c .before .before .before .pre .0) (c .normal-of .ensures))
-    size-requires
-    lay-requires
-    lay-triangle-requires
-    (λ c κs. search needs)
-    (λ c. search answering)
-    (λ c. search answering))
+    size-requires lay-requires lay-triangle-requires
+    (λ c κs. search needs) (λ c. search answering) (λ c. search answering))

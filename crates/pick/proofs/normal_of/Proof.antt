@@ -14,9 +14,7 @@ pub normal-of-spec : {M : Type 1} → statement M
 normal-of-spec =
     tie.close
     (tie.spec
-    (λ c κs. search needs)
-    (λ c κs. search needs)
-    (λ c κs. search needs)
+    (λ c κs. search needs) (λ c κs. search needs) (λ c κs. search needs)
     (λ c κs. let s = c .before .before .before .before .before .before in two-fit (s .args .m) (c .before .before .cross .ensures) (c .before .cross2 .ensures) (c .cross3 .ensures) (s .pre))
     (λ c κs. let d = c .before in let s = d .before .before .before .before .before .before in three-fit (s .args .m) (d .before .before .cross .ensures) (d .before .cross2 .ensures) (d .cross3 .ensures) (s .pre) (c .add .ensures))
     returns)

@@ -1,64 +1,27 @@
--- `pick::pick_solid` meets its contract: by the three tests before the box. What they found makes the casts fit.
-use mathlib.Core.Path.{sym, _∙_}
-use native.Mathlib.Omega.{arith}
-use lib.Dec.{lit≤}
+-- `pick::pick_solid` meets its contract: by how far the pick came, through the inputs, the start, the rounds or the end.
 use borrow.Author.Needs.{needs}
-use Rattle.pick.proofs.Ranges.{range, range-fits}
-use Rattle.pick.proofs.Answers.{picked-reach, picked-frame, picked-solid, picked-placed, picked-read}
+use Rattle.pick.proofs.Answers.{granted, picking, picked-end}
 use Rattle.pick.proofs.pick_solid.Statement.{statement}
 use Rattle.pick.proofs.pick_solid.Tie as tie
 
-place-requires : tie.Need-place-requires
-place-requires c κs =
-    let d = c .before .before .before .before in
-    let reach = range _ _ _ (sym (d .before .is-between .ensures) ∙ d .if1 .taken) in
-    (record { is = sym (c .before .is-permitted .ensures) ∙ c .if3 .taken }, omega (arith, reach .at-most))
-
 returns-4 : tie.Need-returns-4
 returns-4 c =
-    let reach = c .before in
-    let start = reach .before .before .before in
-    picked-read (start .fits .frame) (start .fits .reach) (picked-reach (reach .before .is-between .ensures) (reach .if1 .left) (c .refusal3 .ensures))
-
-returns-3 : tie.Need-returns-3
-returns-3 c =
-    let frame = c .before in
-    let reach = frame .before .before in
-    let start = reach .before .before .before in
-    picked-read (start .fits .frame) (start .fits .reach) (picked-frame (reach .before .is-between .ensures) (frame .before .is-between2 .ensures) (reach .if1 .taken) (frame .if2 .left) (c .refusal2 .ensures))
-
-returns-2 : tie.Need-returns-2
-returns-2 c =
-    let solid = c .before in
-    let frame = solid .before .before in
-    let reach = frame .before .before in
-    let start = reach .before .before .before in
-    picked-read (start .fits .frame) (start .fits .reach)
-    (picked-solid (reach .before .is-between .ensures) (frame .before .is-between2 .ensures) (solid .before .is-permitted .ensures) (reach .if1 .taken) (frame .if2 .taken) (solid .if3 .left) (c .refusal .ensures))
-
-returns : tie.Need-returns
-returns c =
-    let solid = c .before in
-    let frame = solid .before .before in
-    let reach = frame .before .before in
-    let start = reach .before .before .before in
-    picked-read (start .fits .frame) (start .fits .reach)
-    (picked-placed (reach .before .is-between .ensures) (frame .before .is-between2 .ensures) (solid .before .is-permitted .ensures) (reach .if1 .taken) (frame .if2 .taken) (solid .if3 .taken) (c .place .ensures))
+    let ended = c .before .before in
+    let walked = ended .before .before in
+    let begun = walked .before .before in
+    let started = begun .before .before in
+    let fit = started .before .before in
+    let judged = fit .before .before in
+    let s = judged .before .before in
+    picked-end (s .fits .frame) (s .fits .reach) (judged .judge .ensures) (fit .fit2 .given .1) (started .start-at .ensures) (begun .begun2 .given .1) (walked .walk-on .ensures) (ended .walked2 .given .1) (c .end-walk .ensures)
 
 pub pick-solid-spec : {M : Type 1} → statement M
 pick-solid-spec =
     tie.close
     (tie.spec
-    (λ c κs. search needs)
-    (λ c κs. search needs)
-    (λ c κs. search needs)
-    (λ c. let d = c .before .before in range-fits (range _ _ _ (sym (d .before .is-between2 .ensures) ∙ d .if2 .taken)) (lit≤ tt))
-    (λ c. let d = c .before .before .before .before in range-fits (range _ _ _ (sym (d .before .is-between .ensures) ∙ d .if1 .taken)) (lit≤ tt))
-    place-requires
-    (λ c κs. search needs)
-    (λ c κs. search needs)
-    (λ c κs. search needs)
-    returns
-    returns-2
-    returns-3
-    returns-4)
+    (λ c κs. search needs) (λ c. search needs) (λ c. search needs) (λ c κs. search granted)
+    (λ c. search needs) (λ c. search needs)
+    (λ c κs. (search granted, search granted))
+    (λ c. search needs) (λ c. search needs)
+    (λ c κs. (search granted, search granted))
+    (λ c. search picking) (λ c. search picking) (λ c. search picking) returns-4)

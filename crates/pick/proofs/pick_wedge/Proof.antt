@@ -8,6 +8,5 @@ pub pick-wedge-spec : {M : Type 1} → statement M
 pick-wedge-spec =
     tie.close
     (tie.spec
-    (λ c. search needs)
-    (λ c κs. search needs)
+    (λ c. search needs) (λ c κs. search needs)
     (λ c. let s = c .before .before in record { is = picked-read (s .fits .frame) (s .fits .reach) (c .pick-solid .ensures) .is }))

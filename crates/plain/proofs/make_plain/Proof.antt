@@ -1,4 +1,4 @@
--- What the writer wrote lies inside its lent buffer.
+-- `plain::make_plain` meets its contract: what the writer wrote lies inside its lent buffer.
 use mathlib.Core.Path.{_≡_, sym, subst}
 use mathlib.Core.List.{List}
 use Prim.Native.Nat.{ℕ, _≤_}
@@ -19,23 +19,13 @@ within {k} {bytes} {before} {after} W e = write-accepted (subst (WritePromise k 
 counted : {k : Stack} {bytes before after : List ℕ} {w : Writing} {n : ℕ} → WritePromise k bytes before after w → w ≡ Written n → n ≡ length (take n after)
 counted {after = after} {n = n} W e = sym (length-take-le n after (within W e))
 
+ruleset written = (within, counted)
+
 pub make-plain-spec : {M : Type 1} → statement M
 make-plain-spec =
     tie.close
     (tie.spec
-    (λ c κs. search needs)
-    (λ c. search needs)
-    (λ c κs. search needs)
-    (λ c. search needs)
-    (λ c κs. search needs)
-    (λ c. search needs)
-    (λ c κs. search needs)
-    (λ c. search needs)
-    (λ c. search needs)
-    (λ c. search needs)
-    (λ c. search needs)
-    (λ c. search needs)
-    (λ c. search needs)
-    (λ c. search needs)
-    (λ c. search needs)
-    (λ c. search (within, counted)))
+    (λ c κs. search needs) (λ c. search needs) (λ c κs. search needs) (λ c. search needs) (λ c κs. search needs)
+    (λ c. search needs) (λ c κs. search needs) (λ c. search needs) (λ c. search needs) (λ c. search needs)
+    (λ c. search needs) (λ c. search needs) (λ c. search needs) (λ c. search needs) (λ c. search needs)
+    (λ c. search written))

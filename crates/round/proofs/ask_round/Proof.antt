@@ -1,12 +1,12 @@
 -- `round::ask_round` meets its contract. The loop's invariant: the pairs from here on give what the whole round gives. The measure is the pairs that are left.
 use borrow.Author.Needs.{needs}
-use Rattle.rules.specs.Solids.{look}
+use Rattle.falls.specs.Scene.{probeOf}
 use Rattle.round.proofs.Rounds.{left, Asking, asking, asking-few}
 use Rattle.round.proofs.ask_round.Statement.{statement}
 use Rattle.round.proofs.ask_round.Tie as tie
 
 abbrev Inv-loop : tie.InvT-loop
-Inv-loop scene bytes level m looks x₀ sofar₀ x sofar = Asking (look (scene .solid) bytes) (scene .apex) (scene .signs) (scene .reach) m level looks x sofar
+Inv-loop scene bytes level m looks x₀ sofar₀ x sofar = Asking (probeOf scene bytes) m level looks x sofar
 
 abbrev μ-loop : tie.MeasureT-loop
 μ-loop scene bytes level m looks x₀ sofar₀ x sofar = left x
@@ -23,11 +23,6 @@ ask-round-spec =
     (tie.spec
     Inv-loop
     μ-loop
-    (λ c. search asking)
-    ask-pair-requires
-    (λ c κs. search needs)
-    (λ c. search needs)
-    (λ c. search needs)
-    (λ c. search asking)
-    (λ c. search asking)
+    (λ c. search asking) ask-pair-requires
+    (λ c κs. search needs) (λ c. search needs) (λ c. search needs) (λ c. search asking) (λ c. search asking)
     (λ c. search asking))

@@ -18,13 +18,6 @@ pub ask-way-spec : {M : Type 1} → statement M
 ask-way-spec =
     tie.close
     (tie.spec
-    (λ c κs. search needs)
-    lay-requires
-    ask-falls-requires
-    (λ c. search needs)
-    (λ c κs. search needs)
-    (λ c. search needs)
-    (λ c. search needs)
-    (λ c. search ways)
-    (λ c. search ways)
-    (λ c. search ways))
+    (λ c κs. search needs) lay-requires ask-falls-requires
+    (λ c. search needs) (λ c κs. search needs) (λ c. search needs) (λ c. search needs) (λ c. search ways)
+    (λ c. search ways) (λ c. search ways))

@@ -16,9 +16,5 @@ prefer-spec =
     tie.close
     (tie.spec
     (λ c κs. let s = c .before in row-fits (s .pre .0) (s .args .y) (s .pre .2))
-    (λ c. search needs)
-    (λ c. search needs)
-    is-nearer-requires
-    (λ c. search prefers)
-    (λ c. search prefers)
+    (λ c. search needs) (λ c. search needs) is-nearer-requires (λ c. search prefers) (λ c. search prefers)
     (λ c. search prefers))

@@ -17,8 +17,6 @@ pub step-by-spec : {M : Type 1} → statement M
 step-by-spec =
     tie.close
     (tie.spec
-    (λ c κs. search needs)
-    (λ c κs. search needs)
+    (λ c κs. search needs) (λ c κs. search needs)
     (λ c κs. let s = c .before .before in step-fits (s .pre) (s .args .x) (c .before .first-of .ensures) (c .second-of .ensures))
-    (λ c κs. search needs)
-    returns)
+    (λ c κs. search needs) returns)

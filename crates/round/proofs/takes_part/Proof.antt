@@ -17,11 +17,7 @@ pub takes-part-spec : {M : Type 1} → statement M
 takes-part-spec =
     tie.close
     (tie.spec
-    (λ c. search needs)
-    (λ c. search needs)
-    (λ c. search needs)
-    (λ c. search needs)
-    (λ c. search needs)
+    (λ c. search needs) (λ c. search needs) (λ c. search needs) (λ c. search needs) (λ c. search needs)
     (λ c. search needs)
     (λ c. by-pair (c .before .before .args .level) P01 (c .enum-told .given .1))
     (λ c. by-pair (c .before .before .args .level) P02 (c .enum-told2 .given .1))

@@ -8,7 +8,6 @@ pub way-of-spec : {M : Type 1} → statement M
 way-of-spec =
     tie.close
     (tie.spec
-    (λ c κs. search needs)
-    (λ c κs. search needs)
+    (λ c κs. search needs) (λ c κs. search needs)
     (λ c κs. let s = c .before .before in way-fits (s .pre) (s .args .x) (c .first-of .ensures) (c .before .second-of .ensures))
     (λ c. cc))

@@ -2,7 +2,7 @@
 use Prim.Native.Nat.{_-_}
 use borrow.Author.Needs.{needs}
 use lib.ListN.{length}
-use Rattle.session.proofs.Loop.{AtLine, at-line-starts, ready-inner, at-line-more, ready-last, ends-last, ends-empty}
+use Rattle.session.proofs.Loop.{AtLine, at-line-starts, inner-room, at-line-more, last-room, ends-last, ends-empty}
 use Rattle.session.proofs.put_replies.Statement.{statement}
 use Rattle.session.proofs.put_replies.Tie as tie
 
@@ -18,21 +18,9 @@ put-replies-spec =
     (tie.spec
     Inv-loop
     μ-loop
-    (λ c κs. search needs)
-    (λ c. search at-line-starts)
-    (λ c. search needs)
-    (λ c. search needs)
-    (λ c. search needs)
-    (λ c κs. search ready-inner)
-    (λ c. search needs)
-    (λ c κs. search needs)
-    (λ c. search needs)
-    (λ c. search at-line-more)
-    (λ c. search needs)
-    (λ c. search ends-empty)
-    (λ c. search needs)
-    (λ c. search needs)
-    (λ c. search needs)
-    (λ c κs. search ready-last)
-    (λ c. search needs)
-    (λ c. search ends-last))
+    (λ c κs. search needs) (λ c. search at-line-starts)
+    (λ c. search needs) (λ c. search needs) (λ c. search needs) (λ c κs. search inner-room)
+    (λ c. search needs) (λ c κs. search needs) (λ c. search needs) (λ c. search at-line-more)
+    (λ c. search needs) (λ c. search ends-empty)
+    (λ c. search needs) (λ c. search needs) (λ c. search needs) (λ c κs. search last-room)
+    (λ c. search needs) (λ c. search ends-last))

@@ -8,14 +8,6 @@ pub put-reply-spec : {M : Type 1} → statement M
 put-reply-spec =
     tie.close
     (tie.spec
-    (λ c κs. search needs)
-    (λ c. search needs)
-    (λ c κs. search needs)
-    (λ c κs. search answer-space)
-    (λ c. search needs)
-    (λ c. search needs)
-    (λ c κs. search needs)
-    (λ c. search needs)
-    (λ c. search replies-answer)
-    (λ c. search needs)
-    (λ c. search replies-other))
+    (λ c κs. search needs) (λ c. search needs) (λ c κs. search needs) (λ c κs. search answer-space)
+    (λ c. search needs) (λ c. search needs) (λ c κs. search needs) (λ c. search needs) (λ c. search replies-answer)
+    (λ c. search needs) (λ c. search replies-other))

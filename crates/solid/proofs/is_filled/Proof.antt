@@ -1,22 +1,21 @@
 -- Each solid's own test. What it asks follows from the solid's being permitted and the point's being inside.
 use borrow.Author.Needs.{needs}
-use Rattle.solid.specs.Facts.{wedge-asks, stack-asks, inside-bounded}
+use Rattle.stack.specs.Voxels.{point-held}
+use Rattle.solid.specs.Facts.{wedge-asks, inside-bounded}
 use Rattle.solid.proofs.is_filled.Statement.{statement}
 use Rattle.solid.proofs.is_filled.Tie as tie
 
 wedge : tie.Need-is-filled-wedge-requires
 wedge c κs = let s = c .before .before .before .before .pre in let e = c .before .s .given .1 in (wedge-asks (rw e at (s .0)), inside-bounded (s .0) (s .1))
 
-stack : tie.Need-is-filled-stack-requires
-stack c κs = let s = c .before .before .before .before .pre in let e = c .before .s2 .given .1 in stack-asks (rw e at (s .0)) (rw e at (s .1))
+stack : tie.Need-is-filled-requires
+stack c κs = let s = c .before .before .before .before .pre in let e = c .before .s2 .given .1 in point-held (rw e at (s .0 .is)) (rw e at (s .1 .is))
 
 pub is-filled-spec : {M : Type 1} → statement M
 is-filled-spec =
     tie.close
     (tie.spec
-    (λ c. search needs)
-    wedge
-    (λ c. search needs)
-    stack
+    (λ c. search needs) wedge
+    (λ c. search needs) stack
     (λ c. rw (c .before .before .s .given .1) (c .is-filled-wedge .ensures))
-    (λ c. rw (c .before .before .s2 .given .1) (c .is-filled-stack .ensures)))
+    (λ c. rw (c .before .before .s2 .given .1) (c .is-filled .ensures)))

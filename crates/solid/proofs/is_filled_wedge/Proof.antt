@@ -13,9 +13,6 @@ pub is-filled-wedge-spec : {M : Type 1} → statement M
 is-filled-wedge-spec =
     tie.close
     (tie.spec
-    (λ c. fits (search machine depth 30 fits 5000) tt)
-    (λ c. fits (search machine depth 30 fits 5000) tt)
-    (λ c. fits (search machine depth 30 fits 5000) tt)
-    (λ c. fits (search machine depth 30 fits 5000) tt)
-    (λ c. fits (search machine depth 30 fits 5000) tt)
-    returns)
+    (λ c. fits (search machine depth 30 fits 5000) tt) (λ c. fits (search machine depth 30 fits 5000) tt)
+    (λ c. fits (search machine depth 30 fits 5000) tt) (λ c. fits (search machine depth 30 fits 5000) tt)
+    (λ c. fits (search machine depth 30 fits 5000) tt) returns)

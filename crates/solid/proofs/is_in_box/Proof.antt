@@ -2,7 +2,7 @@
 use borrow.Author.Needs.{needs}
 use Rattle.integers.specs.Machine.{value}
 use Rattle.rules.specs.Solids.{inBox}
-use Rattle.solid.proofs.Judged.{judged}
+use Rattle.range.specs.Judged.{judged}
 use Rattle.solid.proofs.is_in_box.Statement.{statement}
 use Rattle.solid.proofs.is_in_box.Tie as tie
 

@@ -1,6 +1,6 @@
 -- Both tests are those of the parameters.
 use Rattle.integers.specs.Machine.{value}
-use Rattle.solid.proofs.Judged.{judged}
+use Rattle.range.specs.Judged.{judged}
 use Rattle.solid.proofs.is_in_side.Statement.{statement}
 use Rattle.solid.proofs.is_in_side.Tie as tie
 

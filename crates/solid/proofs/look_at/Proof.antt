@@ -31,6 +31,5 @@ look-at-spec =
     (tie.spec
     (λ c κs. search needs)
     (λ c κs. (c .before .before .before .pre, record { is = sym (c .before .is-inside .ensures) ∙ c .if1 .taken }))
-    returns
-    returns-2
+    returns returns-2
     (λ c. outside _ _ _ (c .before .is-inside .ensures) (c .if1 .left)))

@@ -3,19 +3,16 @@ use borrow.Author.Needs.{needs}
 use Rattle.integers.specs.Machine.{value}
 use Rattle.space.specs.Bounds.{measured}
 use Rattle.rules.specs.Vectors.{cross}
-use Rattle.space.proofs.Parts.{by-parts}
+use Rattle.laws.specs.Parts.{vector-eq}
 use Rattle.space.proofs.cross.Statement.{statement}
 use Rattle.space.proofs.cross.Tie as tie
 
 returns : tie.Need-returns
 unfolding cross
-returns c = by-parts (value (search measured depth 30 fits 5000) tt) (value (search measured depth 30 fits 5000) tt) (value (search measured depth 30 fits 5000) tt)
+returns c = vector-eq (value (search measured depth 30 fits 5000) tt) (value (search measured depth 30 fits 5000) tt) (value (search measured depth 30 fits 5000) tt)
 
 pub cross-spec : {M : Type 1} → statement M
 cross-spec =
     tie.close
     (tie.spec
-    (λ c κs. search needs)
-    (λ c κs. search needs)
-    (λ c κs. search needs)
-    returns)
+    (λ c κs. search needs) (λ c κs. search needs) (λ c κs. search needs) returns)

@@ -14,9 +14,5 @@ pub dot-spec : {M : Type 1} → statement M
 dot-spec =
     tie.close
     (tie.spec
-    (λ c κs. search needs)
-    (λ c κs. search needs)
-    (λ c κs. search needs)
-    (λ c. fits (search measured depth 30 fits 5000) tt)
-    (λ c. fits (search measured depth 30 fits 5000) tt)
-    returns)
+    (λ c κs. search needs) (λ c κs. search needs) (λ c κs. search needs)
+    (λ c. fits (search measured depth 30 fits 5000) tt) (λ c. fits (search measured depth 30 fits 5000) tt) returns)

@@ -39,9 +39,5 @@ pub size-spec : {M : Type 1} → statement M
 size-spec =
     tie.close
     (tie.spec
-    (λ c κs. search needs)
-    (λ c κs. search needs)
-    (λ c κs. search needs)
-    (λ c. search two-fit)
-    (λ c. search three-fit)
+    (λ c κs. search needs) (λ c κs. search needs) (λ c κs. search needs) (λ c. search two-fit) (λ c. search three-fit)
     returns)

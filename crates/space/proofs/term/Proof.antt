@@ -10,5 +10,4 @@ term-spec =
     (tie.spec
     (λ c κs. (bounded (search measured depth 30 fits 5000) tt, bounded (search measured depth 30 fits 5000) tt))
     (λ c κs. (bounded (search measured depth 30 fits 5000) tt, bounded (search measured depth 30 fits 5000) tt))
-    (λ c. fits (search measured depth 30 fits 5000) tt)
-    (λ c. value (search measured depth 30 fits 5000) tt))
+    (λ c. fits (search measured depth 30 fits 5000) tt) (λ c. value (search measured depth 30 fits 5000) tt))

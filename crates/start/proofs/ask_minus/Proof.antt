@@ -15,5 +15,4 @@ ask-minus-spec =
     tie.close
     (tie.spec
     (λ c κs. let s = c .before .before in (s .pre .0 .signed, s .pre .1))
-    ask-falls-requires
-    (λ c. search minus-asked))
+    ask-falls-requires (λ c. search minus-asked))

@@ -1,7 +1,7 @@
 -- `start::ask_opposite` meets its contract: by what `ask_falls` promises of the unit vector.
 use native.Mathlib.Omega.{arith}
 use borrow.Author.Needs.{needs}
-use Rattle.falls.proofs.Scenes.{apex-fits}
+use Rattle.falls.specs.Sizes.{apex-fits}
 use Rattle.start.proofs.Axes.{fitting, opposing}
 use Rattle.start.proofs.ask_opposite.Statement.{statement}
 use Rattle.start.proofs.ask_opposite.Tie as tie
@@ -16,13 +16,8 @@ pub ask-opposite-spec : {M : Type 1} → statement M
 ask-opposite-spec =
     tie.close
     (tie.spec
-    lay-requires
-    ask-falls-requires
+    lay-requires ask-falls-requires
     (λ c. search needs)
     (λ c κs. let s = c .before .before .before .before .before .before .before in (apex-fits (s .pre .0), s .pre .0 .signed, s .pre .1))
-    (λ c. search needs)
-    (λ c. search needs)
-    (λ c κs. search needs)
-    (λ c. search opposing)
-    (λ c. search opposing)
+    (λ c. search needs) (λ c. search needs) (λ c κs. search needs) (λ c. search opposing) (λ c. search opposing)
     (λ c. search opposing))

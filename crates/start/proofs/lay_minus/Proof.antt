@@ -10,6 +10,5 @@ pub lay-minus-spec : {M : Type 1} → statement M
 lay-minus-spec =
     tie.close
     (tie.spec
-    (λ c κs. search needs)
-    (λ c κs. search fitting)
+    (λ c κs. search needs) (λ c κs. search fitting)
     (λ c. c .lay .ensures ∙ ap (lay (c .before .before .args .s)) (c .before .negate .ensures)))

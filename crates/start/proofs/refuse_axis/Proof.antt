@@ -8,7 +8,5 @@ pub refuse-axis-spec : {M : Type 1} → statement M
 refuse-axis-spec =
     tie.close
     (tie.spec
-    (λ c κs. search fitting)
-    (λ c κs. search fitting)
-    (λ c κs. search needs)
-    (λ c. search is-opposed))
+    (λ c κs. search fitting) (λ c κs. search fitting)
+    (λ c κs. search needs) (λ c. search is-opposed))

@@ -26,15 +26,12 @@ module _ (t : ℕ) where
   abbrev calls : put-number-lts.Claims
   calls = (last-figure-reads.Asked, last-figure-reads.Learnt, put-reads.Asked, put-reads.Learnt, put-number-below, put-number.Post)
 
+  fewer-digits : put-number-lts.Need-put-number-requires calls put-number-at put-number.Post
+  fewer-digits c κs = (omega arith, search room-more)
+
 pub +put-number-spec : {M : Type 1} → statement M
 +put-number-spec = close μ-put-number λ t. put-number-lts.spec (calls t) (put-number-at t) put-number.Post
-    (λ c κs. search needs)
-    (λ c. search needs)
-    (λ c κs. search room-one)
-    (λ c. search needs)
-    (λ c. search put-one)
-    (λ c κs. (omega arith, search room-more))
-    (λ c. search needs)
-    (λ c κs. search room-last)
-    (λ c. search needs)
-    (λ c. search put-last)
+    (λ c κs. search needs) (λ c. search needs) (λ c κs. search room-one)
+    (λ c. search needs) (λ c. search put-one) (fewer-digits t)
+    (λ c. search needs) (λ c κs. search room-last)
+    (λ c. search needs) (λ c. search put-last)

@@ -19,11 +19,6 @@ put-spec =
     Inv-loop
     μ-loop
     (λ c. putting-starts)
-    (λ c. omega arith)
-    (λ c. omega arith)
-    (λ c. omega arith)
-    (λ c. omega arith)
-    (λ c. omega arith)
+    (λ c. omega arith) (λ c. omega arith) (λ c. omega arith) (λ c. omega arith) (λ c. omega arith)
     (λ c. search putting-more)
-    (λ c. omega arith)
-    (λ c. search putting-ends))
+    (λ c. omega arith) (λ c. search putting-ends))

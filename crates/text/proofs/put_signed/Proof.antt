@@ -8,12 +8,6 @@ pub put-signed-spec : {M : Type 1} → statement M
 put-signed-spec =
     tie.close
     (tie.spec
-    (λ c κs. search needs)
-    (λ c. search needs)
-    (λ c κs. search room-minus)
-    (λ c κs. search room-size)
-    (λ c. search needs)
-    (λ c. search put-negative)
-    (λ c κs. search room-positive)
-    (λ c. search needs)
-    (λ c. search put-positive))
+    (λ c κs. search needs) (λ c. search needs) (λ c κs. search room-minus) (λ c κs. search room-size)
+    (λ c. search needs) (λ c. search put-negative) (λ c κs. search room-positive)
+    (λ c. search needs) (λ c. search put-positive))

@@ -38,9 +38,7 @@ pub count-remaining-spec : {M : Type 1} → statement M
 count-remaining-spec =
     tie.close
     (tie.spec
-    (λ c. search needs)
-    (λ c. search needs)
-    (λ c. search needs)
+    (λ c. search needs) (λ c. search needs) (λ c. search needs)
     (λ c. omega (arith, x-and-y (c .before .before .before .args .level)))
     (λ c. omega (arith, all-three (c .before .before .before .args .level)))
     (λ c. counted (c .before .before .before .args .level)))

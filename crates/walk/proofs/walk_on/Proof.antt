@@ -2,14 +2,14 @@
 use Prim.Native.Nat.{_-_}
 use native.Mathlib.Omega.{arith}
 use borrow.Author.Needs.{needs}
-use Rattle.rules.specs.Solids.{look}
+use Rattle.falls.specs.Scene.{probeOf}
 use Rattle.walk.specs.Walk.{Walking}
 use Rattle.walk.proofs.Walks.{walk-begins, walks, walks-on}
 use Rattle.walk.proofs.walk_on.Statement.{statement}
 use Rattle.walk.proofs.walk_on.Tie as tie
 
 abbrev Inv-loop : tie.InvT-loop
-Inv-loop scene bytes level looks q limit m₀ steps₀ n₀ m steps n = Walking (look (scene .solid) bytes) (scene .apex) (scene .signs) (scene .reach) level looks m steps n
+Inv-loop scene bytes level looks q limit m₀ steps₀ n₀ m steps n = Walking (probeOf scene bytes) (scene .reach) level looks m steps n
 
 abbrev μ-loop : tie.MeasureT-loop
 μ-loop scene bytes level looks q limit m₀ steps₀ n₀ m steps n = limit - steps
@@ -28,20 +28,7 @@ walk-on-spec =
     (tie.spec
     Inv-loop
     μ-loop
-    (λ c κs. search needs)
-    (λ c κs. search needs)
-    (λ c. search walk-begins)
-    (λ c κs. search needs)
-    (λ c. search needs)
-    (λ c κs. search needs)
-    (λ c. search needs)
-    (λ c. search needs)
-    (λ c. search needs)
-    (λ c κs. search needs)
-    (λ c κs. search needs)
-    (λ c. omega arith)
-    (λ c. omega arith)
-    loop-again
-    (λ c. search walks)
-    (λ c. search walks)
-    (λ c. search walks))
+    (λ c κs. search needs) (λ c κs. search needs) (λ c. search walk-begins)
+    (λ c κs. search needs) (λ c. search needs) (λ c κs. search needs) (λ c. search needs) (λ c. search needs)
+    (λ c. search needs) (λ c κs. search needs) (λ c κs. search needs) (λ c. omega arith) (λ c. omega arith) loop-again
+    (λ c. search walks) (λ c. search walks) (λ c. search walks))

@@ -1,0 +1,24 @@
+-- Sizes of what a scene holds: the apex lies in the box, and a sign's size is 1.
+use mathlib.Core.Logic.{inl, inr}
+use mathlib.Core.List.{List}
+use Prim.Native.Nat.{ℕ}
+use lib.Dec.{lit≤}
+use lib.IntN.{ℤ, pos, negsuc}
+use Rattle.integers.specs.Sizes.{Within, within-is, within-literal}
+use Rattle.rules.specs.declared.Vector.{Vector}
+use Rattle.laws.specs.Frames.{IsSign, Signs}
+use Rattle.laws.specs.Ranges.{Bounded}
+use Rattle.space.specs.Bounds.{bounded-wider}
+use Rattle.solid.specs.Facts.{inside-bounded}
+use Rattle.falls.specs.declared.Scene.{Scene}
+use Rattle.falls.specs.Scene.{Ready}
+
+pub apex-fits : {v : Scene} {bytes : List ℕ} → Ready v bytes → Bounded 1000000000 (v .apex)
+apex-fits h = bounded-wider (inside-bounded (h .permitted) (h .placed)) (lit≤ tt)
+
+sign-bounded : (z : ℤ) → IsSign z → Within 1 z
+sign-bounded z (inl e) = within-is e (within-literal (pos 1))
+sign-bounded z (inr e) = within-is e (within-literal (negsuc 0))
+
+pub signs-bounded : {s : Vector} → Signs s → Bounded 1 s
+signs-bounded h = record { in-x = sign-bounded _ (h .ofX); in-y = sign-bounded _ (h .ofY); in-z = sign-bounded _ (h .ofZ) }

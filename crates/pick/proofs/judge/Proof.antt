@@ -1,0 +1,56 @@
+-- `pick::judge` meets its contract: by the three tests before the box. What they found makes the casts fit.
+use mathlib.Core.Path.{sym, _∙_}
+use native.Mathlib.Omega.{arith}
+use lib.Dec.{lit≤}
+use borrow.Author.Needs.{needs}
+use Rattle.pick.proofs.Ranges.{range, range-fits}
+use Rattle.pick.proofs.Answers.{judged-reach, judged-frame, judged-solid, judged-placed, judged-read}
+use Rattle.pick.proofs.judge.Statement.{statement}
+use Rattle.pick.proofs.judge.Tie as tie
+
+judge-places-requires : tie.Need-judge-places-requires
+judge-places-requires c κs =
+    let d = c .before .before .before .before in
+    let reach = range _ _ _ (sym (d .before .is-between .ensures) ∙ d .if1 .taken) in
+    (record { is = sym (c .before .is-permitted .ensures) ∙ c .if3 .taken }, omega (arith, reach .at-most))
+
+returns-4 : tie.Need-returns-4
+returns-4 c =
+    let reach = c .before in
+    let start = reach .before .before .before in
+    judged-read (start .fits .frame) (start .fits .reach) (judged-reach (reach .before .is-between .ensures) (reach .if1 .left) (c .refusal3 .ensures))
+
+returns-3 : tie.Need-returns-3
+returns-3 c =
+    let frame = c .before in
+    let reach = frame .before .before in
+    let start = reach .before .before .before in
+    judged-read (start .fits .frame) (start .fits .reach) (judged-frame (reach .before .is-between .ensures) (frame .before .is-between2 .ensures) (reach .if1 .taken) (frame .if2 .left) (c .refusal2 .ensures))
+
+returns-2 : tie.Need-returns-2
+returns-2 c =
+    let solid = c .before in
+    let frame = solid .before .before in
+    let reach = frame .before .before in
+    let start = reach .before .before .before in
+    judged-read (start .fits .frame) (start .fits .reach)
+    (judged-solid (reach .before .is-between .ensures) (frame .before .is-between2 .ensures) (solid .before .is-permitted .ensures) (reach .if1 .taken) (frame .if2 .taken) (solid .if3 .left) (c .refusal .ensures))
+
+returns : tie.Need-returns
+returns c =
+    let solid = c .before in
+    let frame = solid .before .before in
+    let reach = frame .before .before in
+    let start = reach .before .before .before in
+    judged-read (start .fits .frame) (start .fits .reach)
+    (judged-placed (reach .before .is-between .ensures) (frame .before .is-between2 .ensures) (solid .before .is-permitted .ensures) (reach .if1 .taken) (frame .if2 .taken) (solid .if3 .taken) (c .judge-places .ensures))
+
+pub judge-spec : {M : Type 1} → statement M
+judge-spec =
+    tie.close
+    (tie.spec
+    (λ c κs. search needs) (λ c κs. search needs) (λ c κs. search needs)
+    (λ c. let d = c .before .before in range-fits (range _ _ _ (sym (d .before .is-between2 .ensures) ∙ d .if2 .taken)) (lit≤ tt))
+    (λ c. let d = c .before .before .before .before in range-fits (range _ _ _ (sym (d .before .is-between .ensures) ∙ d .if1 .taken)) (lit≤ tt))
+    judge-places-requires
+    (λ c κs. search needs) (λ c κs. search needs) (λ c κs. search needs) returns returns-2 returns-3 returns-4)

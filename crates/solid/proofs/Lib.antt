@@ -1,3 +1,0 @@
-pub mod Judged
-pub mod Radix
-pub mod Naturals

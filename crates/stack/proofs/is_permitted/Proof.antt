@@ -1,0 +1,15 @@
+-- The sizes' tests come first, as one; then the bytes'.
+use borrow.Author.Needs.{needs}
+use mathlib.Core.Path.{sym, _∙_}
+use Rattle.stack.specs.Sides.{permitted-stack, sides-of}
+use Rattle.stack.proofs.is_permitted.Statement.{statement}
+use Rattle.stack.proofs.is_permitted.Tie as tie
+
+pub is-permitted-spec : {M : Type 1} → statement M
+is-permitted-spec =
+    tie.close
+    (tie.spec
+    (λ c κs. search needs)
+    (λ c κs. sides-of (sym (c .before .has-sizes .ensures) ∙ c .if1 .taken))
+    (λ c. rw (permitted-stack, sym (c .before .before .has-sizes .ensures) ∙ c .before .if1 .taken, c .stack-bytes .ensures))
+    (λ c. rw (permitted-stack, sym (c .before .has-sizes .ensures) ∙ c .if1 .left)))

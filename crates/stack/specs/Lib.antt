@@ -1,0 +1,4 @@
+pub mod Sides
+pub mod Bytes
+pub mod Voxels
+pub mod Settled
