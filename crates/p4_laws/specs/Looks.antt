@@ -14,7 +14,7 @@ use Rattle.rules.specs.declared.Solid.the-variants.{Stack as IsStack}
 use Rattle.rules.specs.Solids.{rowBytes, sliceBytes, stackBytes, permittedStack, voxel, filledStack, box, inBox, look}
 use Rattle.rules.specs.Pick.{pick, answer, pickOf}
 use Rattle.rules.specs.P4.{rows}
-use Rattle.stack.specs.Sides.{Sized, sized}
+use Rattle.stack.specs.Sides.{sized}
 use Rattle.stack.specs.Voxels.{radix, point-held, looks-alike}
 use Rattle.p4_laws.specs.Rows.{rows-bit, length-rows}
 
@@ -23,18 +23,15 @@ unfoldable pub stackRows : Stack → List ℕ → List ℕ
 stackRows k bytes = rows (natAbs (k .depth) * natAbs (k .height)) (natAbs (k .width)) bytes
 
 module _ (k : Stack) (bytes : List ℕ) (e : permittedStack k bytes ≡ true) where
-  its-sides : Sized k bytes
-  its-sides = sized e
-
   all-rows : natAbs (k .depth) * natAbs (k .height) * rowBytes (natAbs (k .width)) ≤ length bytes
   unfolding stackBytes sliceBytes
-  all-rows = let m = mul-assoc (natAbs (k .depth)) (natAbs (k .height)) (rowBytes (natAbs (k .width))) in let l = its-sides .enough in omega arith
+  all-rows = let m = mul-assoc (natAbs (k .depth)) (natAbs (k .height)) (rowBytes (natAbs (k .width))) in let l = sized e .enough in omega arith
 
   pub rows-bytes : length (stackRows k bytes) ≡ stackBytes k
   unfolding stackRows stackBytes sliceBytes
   rows-bytes =
       let m = mul-assoc (natAbs (k .depth)) (natAbs (k .height)) (rowBytes (natAbs (k .width))) in
-      let n = length-rows (natAbs (k .width)) (its-sides .of .wide .side .some) (natAbs (k .depth) * natAbs (k .height)) bytes all-rows in
+      let n = length-rows (natAbs (k .width)) (sized e .of .wide .side .some) (natAbs (k .depth) * natAbs (k .height)) bytes all-rows in
       omega arith
 
   voxel-same : (behind : List ℕ) (p : Vector) → inBox (box (IsStack k)) p ≡ true → filledStack k (stackRows k bytes ++ behind) p ≡ filledStack k bytes p
@@ -42,7 +39,7 @@ module _ (k : Stack) (bytes : List ℕ) (e : permittedStack k bytes ≡ true) wh
   voxel-same behind p i =
       let h = point-held e i in
       ap (λ (v : ℕ). eqb (v % 2) 1)
-      (rows-bit (natAbs (k .width)) (its-sides .of .wide .side .some) (natAbs (k .depth) * natAbs (k .height)) (natAbs (p .z) * natAbs (k .height) + natAbs (p .y)) (natAbs (p .x)) bytes behind
+      (rows-bit (natAbs (k .width)) (sized e .of .wide .side .some) (natAbs (k .depth) * natAbs (k .height)) (natAbs (p .z) * natAbs (k .height) + natAbs (p .y)) (natAbs (p .x)) bytes behind
       (radix (h .along-z .below) (h .along-y .below)) (h .along-x .below) all-rows)
 
   -- for any lent bytes, whatever padding bits and bytes behind

@@ -19,7 +19,7 @@ use Rattle.rules.specs.declared.Writing.the-variants.{Written}
 use Rattle.rules.specs.Solids.{stackBytes, permittedStack}
 use Rattle.rules.specs.Pick.{pickOf}
 use Rattle.rules.specs.P4.{Judged, good, wrong, Contents, contents, reading, readAnswer, stored, sizes, plain, writing, writeAnswer, ReadPromise, WritePromise}
-use Rattle.stack.specs.Sides.{Sized, sized, stack-is, permits, permitted-too}
+use Rattle.stack.specs.Sides.{sized, stack-is, permits, permitted-too}
 use Rattle.p4_laws.specs.Judging.{on, pass, made, passed}
 use Rattle.p4_laws.specs.Plain.{slices-front, slices-rows}
 use Rattle.p4_laws.specs.Images.{ReadHolds, read-holds}
@@ -29,21 +29,18 @@ use Rattle.p4_laws.specs.Looks.{stackRows, rows-bytes, rows-look, pick-s
 -- ---- written and read back
 
 module _ (k : Stack) (bytes : List ℕ) (e : permittedStack k bytes ≡ true) where
-  its-sides : Sized k bytes
-  its-sides = sized e
-
   -- the plain form reads back as the same sizes and the same rows
   pub plain-reads : contents (plain k bytes) ≡ good (record { stack = k; bytes = stackRows k bytes })
   unfolding plain stackRows stackBytes
   plain-reads =
-      let s = its-sides .of in
-      stack-reads (natAbs (k .width)) (natAbs (k .height)) (s .wide .side) (s .high .side) (natAbs (k .depth)) bytes (s .deep .side) (its-sides .enough)
+      let s = sized e .of in
+      stack-reads (natAbs (k .width)) (natAbs (k .height)) (s .wide .side) (s .high .side) (natAbs (k .depth)) bytes (s .deep .side) (sized e .enough)
       ∙ ap (λ (x : Stack). good (record { stack = x; bytes = stackRows k bytes })) (sym (stack-is s))
 
   -- and is the plain form of these rows
   pub plain-rows : plain k (stackRows k bytes) ≡ plain k bytes
   unfolding plain stackRows stackBytes
-  plain-rows = slices-rows (natAbs (k .width)) (natAbs (k .height)) (its-sides .of .wide .side .some) (natAbs (k .depth)) bytes (its-sides .enough)
+  plain-rows = slices-rows (natAbs (k .width)) (natAbs (k .height)) (sized e .of .wide .side .some) (natAbs (k .depth)) bytes (sized e .enough)
 
   rows-permitted : (behind : List ℕ) → permittedStack k (stackRows k bytes ++ behind) ≡ true
   rows-permitted behind = let n = rows-bytes k bytes e in permitted-too k bytes (stackRows k bytes ++ behind) e (simp length-append (omega arith))
