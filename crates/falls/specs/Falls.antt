@@ -8,7 +8,7 @@ use Rattle.rules.specs.declared.Look.{Look}
 use Rattle.rules.specs.Vectors.{scale}
 use Rattle.rules.specs.Walk.{powersFrom, powers, fallsAt, Probe, falls}
 use Rattle.laws.specs.Ranges.{Bounded}
-use Rattle.laws.specs.Tally.{Tally, yes, no, Gives}
+use Rattle.laws.specs.Tally.{Tally, yes, no, Gives, mostLooks}
 use Rattle.falls.specs.declared.Falls.{Falls}
 use Rattle.falls.specs.declared.Falls.the-variants.{Fell, Kept, Stopped}
 
@@ -24,7 +24,7 @@ fallsLooks (Stopped p n) = n
 
 pub record Fallen (c : Probe) (u : Vector) (looks : ℕ) (r : Falls) : Type 0 where
   pub gives : Gives looks (falls c u) (fallsTally r)
-  pub few : fallsLooks r ≤ looks + 512
+  pub few : fallsLooks r ≤ looks + mostLooks 1
 
 -- before the look at power l, after n looks: what is left of the powers gives what all of them give
 pub record Falling (look : Vector → Look) (q u : Vector) (reach looks l n : ℕ) (way : Vector) : Type 0 where

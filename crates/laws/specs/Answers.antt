@@ -22,7 +22,7 @@ use Rattle.rules.specs.Vectors.{_⊕_, scale, dot, lay}
 use Rattle.rules.specs.Asked.{Asked, answered, refused}
 use Rattle.rules.specs.Solids.{permitted, look}
 use Rattle.rules.specs.Walk.{Stop, stop, powers, Axis, axis0, axis1, axis2, unit, vectorOf, level, remaining, unlessLevel, levelled, normal, Probe, Found, laid, found}
-use Rattle.rules.specs.Pick.{pick, accepted, answer, pickOf}
+use Rattle.rules.specs.Pick.{pick, acceptedAnswer, answer, pickOf}
 use Rattle.laws.specs.Parts.{NonNegative, part, part-of, parts-by, scale-one}
 use Rattle.laws.specs.Triples.{detOf, crosses, combined, expand}
 use Rattle.laws.specs.Levels.{above-zero, isZero, levelsOf, levels-of, levels-eq, part-levelled}
@@ -66,11 +66,17 @@ unfolding answer
 answer-says Q F (answered f t) h = (t, h .of, refl)
 answer-says Q F (refused r t) h = (t, h .of, refl)
 
+-- the answer's looks count the voxels
+pub voxels-counted : (x : Asked Stop Found) → looksOf (answer x) ≡ length (voxelsOf x)
+unfolding answer
+voxels-counted (answered f t) = refl
+voxels-counted (refused r t) = refl
+
 -- an accepted record is what the question answered, with its looks counted
 pub accepted-answer : (x : Asked Stop Found) {a : AcceptedPick} → answer x ≡ Accepted a → x ≡ answered (foundOf a) (voxelsOf x)
 unfolding answer
 accepted-answer (answered f t) {a} e =
-    let is : accepted f (length t) ≡ a = cc in
+    let is : acceptedAnswer f (length t) ≡ a = cc in
     ap (λ (a : AcceptedPick). answered (foundOf a) t) is
 accepted-answer (refused r t) e = absurd (let z : _≡_ {A = ℕ} 0 1 = cc in omega arith)
 

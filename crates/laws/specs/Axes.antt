@@ -15,7 +15,7 @@ use Rattle.rules.specs.Walk.{Stop, stop, ensure, asked, Probe, falls, Axis, axi
 use Rattle.laws.specs.Levels.{remains, remaining-count}
 use Rattle.laws.specs.Says.{Says, Few, fewer, few-after, says-answer, says-weaker, says-itself, says-bind, says-asked, says-ensure}
 use Rattle.laws.specs.Looks.{Fell, Stopped, falls-says}
-use Rattle.laws.specs.Next.{LevelsAnswered, downward, opposite, NextLook, next-look}
+use Rattle.laws.specs.Next.{LevelsAnswered, EarlierAnswered, downward, opposite, NextLook, next-look}
 
 -- ---- how many looks an axis takes, and all three
 abbrev asks : ℕ → Bool → ℕ
@@ -67,15 +67,15 @@ module _ (c : Probe) where
     pub seven : Fell c (minus (unit k)) false → Fell c (unit k) true → F (axisStop (unit k))
 
   module _ {F : Stop → Type 0} where
-    module _ (k : Axis) (rule : AxisRule F k) where
+    module _ (k : Axis) (rule : AxisRule F k) (before : EarlierAnswered c k) where
       abbrev e : Vector
       e = unit k
 
       below : (p : Vector) (t : List Vector) → Few K (Stopped c (minus e)) p t → Few (K + K) F (stop 8 p 0) t
-      below p t h = record { holds = rule .eight p (next-look c (minus e) (downward k refl refl) (h .holds)); few = omega (arith, h .few) }
+      below p t h = record { holds = rule .eight p (next-look c (minus e) (downward k refl before refl) (h .holds)); few = omega (arith, h .few) }
 
       above : Fell c (minus e) false → (p : Vector) (t : List Vector) → Few K (Stopped c e) p t → Few K F (stop 8 p 0) t
-      above f p t h = record { holds = rule .eight p (next-look c e (opposite k refl refl f) (h .holds)); few = h .few }
+      above f p t h = record { holds = rule .eight p (next-look c e (opposite k refl before f refl) (h .holds)); few = h .few }
 
       fell-says : Says (λ b. Few (asks K b) (FellAlong e) b) (Few (K + K) F) (isLevel c e)
       unfolding isLevel
@@ -106,12 +106,30 @@ module _ (c : Probe) where
     pub axes-says : ((k : Axis) → AxisRule F k) → (((k : Axis) → AxisOf (unit k) true) → F (axisStop (unit axis0))) → Says (λ v t. AxesOf v × (length t + length (remaining v) * K ≤ 6 * K)) (Few (6 * K) F) (axes c)
     unfolding axes allLevel
     axes-says rule all =
-        says-bind {P = λ b. Few (asks K b) (AxisOf (unit axis0)) b} _ _ (axis-says axis0 (rule axis0)) (λ r t h. fewer (λ k. omega (arith, k)) h) (λ a s f.
-        says-bind {P = λ b. Few (asks K b) (AxisOf (unit axis1)) b} _ _ (axis-says axis1 (rule axis1)) (λ r t h. few-after s (f .few) (omega (arith, asks-most K a)) h) (λ b t g.
-        says-bind {P = λ b. Few (asks K b) (AxisOf (unit axis2)) b} _ _ (axis-says axis2 (rule axis2)) (λ r u h. fewer (λ l. omega (arith, l, f .few, asks-most K a, g .few, asks-most K b, length-append s (t ++ u), length-append t u)) h) (λ d u h.
+        says-bind {P = λ b. Few (asks K b) (AxisOf (unit axis0)) b} _ _ (axis-says axis0 (rule axis0) none-earlier) (λ r t h. fewer (λ k. omega (arith, k)) h) (λ a s f.
+        says-bind {P = λ b. Few (asks K b) (AxisOf (unit axis1)) b} _ _ (axis-says axis1 (rule axis1) (one-earlier (f .holds))) (λ r t h. few-after s (f .few) (omega (arith, asks-most K a)) h) (λ b t g.
+        says-bind {P = λ b. Few (asks K b) (AxisOf (unit axis2)) b} _ _ (axis-says axis2 (rule axis2) (two-earlier (f .holds) (g .holds))) (λ r u h. fewer (λ l. omega (arith, l, f .few, asks-most K a, g .few, asks-most K b, length-append s (t ++ u), length-append t u)) h) (λ d u h.
         says-ensure _ _ _ (λ n. record { holds = none a b d (f .holds) (g .holds) (h .holds) n; few = omega (arith, counted a b d s t u (f .few) (g .few) (h .few)) })
         (λ n. says-answer (record { axis = each a b d (f .holds) (g .holds) (h .holds); some = n }, counted a b d s t u (f .few) (g .few) (h .few))))))
       where
+        asked-so : {e : Vector} {b : Bool} → AxisOf e b → (b : Bool) × (voxels : List Vector) × (isLevel c e ≡ answered b voxels)
+        asked-so {b = b} h = (b, h .voxels, h .is)
+
+        none-earlier : EarlierAnswered c axis0
+        none-earlier axis0 t = absurd t
+        none-earlier axis1 t = absurd t
+        none-earlier axis2 t = absurd t
+
+        one-earlier : {a : Bool} → AxisOf (unit axis0) a → EarlierAnswered c axis1
+        one-earlier f axis0 t = asked-so f
+        one-earlier f axis1 t = absurd t
+        one-earlier f axis2 t = absurd t
+
+        two-earlier : {a b : Bool} → AxisOf (unit axis0) a → AxisOf (unit axis1) b → EarlierAnswered c axis2
+        two-earlier f g axis0 t = asked-so f
+        two-earlier f g axis1 t = asked-so g
+        two-earlier f g axis2 t = absurd t
+
         each : (a b d : Bool) → AxisOf (unit axis0) a → AxisOf (unit axis1) b → AxisOf (unit axis2) d → (k : Axis) → AxisOf (unit k) (level (levels a b d) k)
         each a b d f g h axis0 = f
         each a b d f g h axis1 = g

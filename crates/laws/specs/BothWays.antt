@@ -6,6 +6,7 @@ use mathlib.Core.List.{List, []}
 use Prim.Native.Nat.{ℕ}
 use native.Mathlib.Omega.{arith}
 use lib.Dec.{T}
+use mir.Facts.{yes-and}
 use Rattle.rules.specs.declared.Vector.{Vector}
 use Rattle.rules.specs.declared.Levels.{Levels}
 use Rattle.rules.specs.declared.Triangle.{Triangle}
@@ -14,7 +15,7 @@ use Rattle.rules.specs.declared.Pair.the-variants.{P01, P02, P10, P12, P20, P21
 use Rattle.rules.specs.Vectors.{_⊕_, _⊖_, minus, lay}
 use Rattle.rules.specs.Asked.{Asked, answered, _>>=_, _>>_}
 use Rattle.rules.specs.Walk.{Stop, stop, ensure, asked, Axis, unit, units, pairs, from, to, vectorOf, first, second, way, level, only, takesPart, Probe, Found, laid, falls, isLevel, rounds, found}
-use Rattle.laws.specs.Tests.{is-true, both}
+use Rattle.laws.specs.Tests.{is-true}
 use Rattle.laws.specs.Only.{taking-in}
 use Rattle.laws.specs.Parts.{difference-turned}
 use Rattle.laws.specs.Levels.{levels-eq, from-remains, to-remains}
@@ -45,7 +46,7 @@ turned-to P21 = refl
 
 turned-takes : (v : Levels) (x : Pair) → T (takesPart v x) → T (takesPart v (turned x))
 unfolding takesPart
-turned-takes v x t = rw (turned-from x, turned-to x) (both (not (level v (to x))) (not (level v (from x))) (to-remains v x t) (from-remains v x t))
+turned-takes v x t = rw (turned-from x, turned-to x) (yes-and (not (level v (to x))) (not (level v (from x))) (to-remains v x t) (from-remains v x t))
 
 turned-way : (m : Triangle) (x : Pair) → way m (turned x) ≡ minus (way m x)
 turned-way m x = ap₂ (λ (k l : Axis). vectorOf m k ⊖ vectorOf m l) (turned-to x) (turned-from x) ∙ difference-turned (first m x) (second m x)

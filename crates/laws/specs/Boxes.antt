@@ -48,17 +48,17 @@ pub outside-box : (solid : Solid) (bytes : List ℕ) (p : Vector) → look solid
 unfolding isInside
 outside-box solid bytes p e = rw (← look-inside solid bytes p, e) tt
 
-seen-told : (i f b : Bool) → seenAs i f ≡ As b → T i × (f ≡ b)
-seen-told false f true e = absurd (let z : _≡_ {A = ℕ} 0 1 = cc in omega arith)
-seen-told false f false e = absurd (let z : _≡_ {A = ℕ} 0 1 = cc in omega arith)
-seen-told true true true e = (tt, refl)
-seen-told true true false e = absurd (let z : _≡_ {A = ℕ} 0 1 = cc in omega arith)
-seen-told true false true e = absurd (let z : _≡_ {A = ℕ} 0 1 = cc in omega arith)
-seen-told true false false e = (tt, refl)
+seen-as : (i f b : Bool) → seenAs i f ≡ As b → T i × (f ≡ b)
+seen-as false f true e = absurd (let z : _≡_ {A = ℕ} 0 1 = cc in omega arith)
+seen-as false f false e = absurd (let z : _≡_ {A = ℕ} 0 1 = cc in omega arith)
+seen-as true true true e = (tt, refl)
+seen-as true true false e = absurd (let z : _≡_ {A = ℕ} 0 1 = cc in omega arith)
+seen-as true false true e = absurd (let z : _≡_ {A = ℕ} 0 1 = cc in omega arith)
+seen-as true false false e = (tt, refl)
 
-pub look-told : (solid : Solid) (bytes : List ℕ) (p : Vector) (b : Bool) → look solid bytes p ≡ As b → T (inBox (box solid) p) × (filled solid bytes p ≡ b)
+pub look-as : (solid : Solid) (bytes : List ℕ) (p : Vector) (b : Bool) → look solid bytes p ≡ As b → T (inBox (box solid) p) × (filled solid bytes p ≡ b)
 unfolding look
-look-told solid bytes p b e = seen-told (inBox (box solid) p) (filled solid bytes p) b e
+look-as solid bytes p b e = seen-as (inBox (box solid) p) (filled solid bytes p) b e
 
 -- ---- cubes
 pub in-cube : (M : ℕ) (sides p : Vector) → Parts (λ side. side ≤ℤ pos (suc M)) sides → T (inBox sides p) → InCube M p

@@ -4,7 +4,7 @@ use mathlib.Core.Path.{_≡_, refl, sym, ap, subst, _∙_}
 use mathlib.Core.Logic.{inl, inr}
 use mathlib.Core.Bool.{Bool, true, false}
 use mathlib.Core.List.{List, [], _∷_, append-nil}
-use Prim.Native.Nat.{ℕ, zero, suc}
+use Prim.Native.Nat.{ℕ, zero, suc, _≤_}
 use native.Mathlib.Omega.{arith}
 use lib.IntN.{pos}
 use Rattle.rules.specs.declared.Vector.{Vector}
@@ -109,7 +109,36 @@ module _ (c : Probe) where
     pub record EndsIfNoneFalls (left n : ℕ) (m : Triangle) (fs : List Pair) (t : List Vector) : Type 0 where
       pub determinant : detOf m ≡ pos 1
       pub ends : fs ≡ [] → walk c ps left n m ≡ answered (m, n) t
+      pub only : (u : List Vector) → walk c ps left n m ≡ answered (m, n) u → fs ≡ []
       pub goes : (fs ≡ [] → ⊥) → (x : Pair) × In x fs × (walk c ps left n m ≡ after t (goesOn left n m x)) × Reached c ps (suc n) (step m x)
+
+    -- a walk that goes on has taken no fewer steps at its end
+    no-fewer : (n : ℕ) (m : Triangle) (left : ℕ) {e : Triangle × ℕ} {t : List Vector} → walk c ps left n m ≡ answered e t → ((y : Pair) (u : List Vector) → goesOn left n m y ≡ answered e u → n ≤ e .1) → n ≤ e .1
+    no-fewer n m left {e} {t} w later = go (b .answer) (b .second)
+      where
+        b : Both (asked n (round c ps m)) (rest left n m) e t
+        b = both-answered _ _ (sym (walk-text left n m) ∙ w)
+
+        go : (y : Choice) → rest left n m y ≡ answered e (b .behind) → n ≤ e .1
+        go Nothing k = let is : (m, n) ≡ e = cc in subst (λ (e : Triangle × ℕ). n ≤ e .1) is (omega arith)
+        go (Chosen y) k = later y _ k
+
+    steps-kept : (left n : ℕ) (m : Triangle) {e : Triangle × ℕ} {t : List Vector} → walk c ps left n m ≡ answered e t → n ≤ e .1
+    steps-kept zero n m w = no-fewer n m zero w (λ y u k. absurd (let z : _≡_ {A = ℕ} 0 1 = cc in omega arith))
+    steps-kept (suc left) n m w = no-fewer n m (suc left) w (λ y u k. omega (arith, steps-kept left (suc n) (step m y) k))
+
+    -- so where a pair falls it does not end here: it refuses 9, or takes one step more at least
+    not-here : (left n : ℕ) (m : Triangle) (x : Pair) (t : List Vector) {u : List Vector} → after t (goesOn left n m x) ≡ answered (m, n) u → ⊥
+    unfolding after
+    not-here zero n m x t w = let z : _≡_ {A = ℕ} 0 1 = cc in omega arith
+    not-here (suc left) n m x t {u} w = go (walk c ps left (suc n) (step m x)) refl w
+      where
+        go : (y : Asked Stop (Triangle × ℕ)) → walk c ps left (suc n) (step m x) ≡ y → after t y ≡ answered (m, n) u → ⊥
+        go (answered e v) f w =
+            let is : e ≡ (m, n) = cc in
+            let few = subst (λ (e : Triangle × ℕ). suc n ≤ e .1) is (steps-kept left (suc n) (step m x) f) in
+            omega (arith, few)
+        go (refused r v) f w = let z : _≡_ {A = ℕ} 0 1 = cc in omega arith
 
     module _ (n : ℕ) (m : Triangle) (r : Reached c ps n m) {fs : List Pair} {t : List Vector} (e : falling c m ps ≡ answered fs t) where
       round-is : round c ps m ≡ answered (choice m fs) t
@@ -122,13 +151,20 @@ module _ (c : Probe) where
 
       pub walk-ends : (left : ℕ) → EndsIfNoneFalls left n m fs t
       unfolding after choice firstFree
-      walk-ends left = record { determinant = one; ends = ends; goes = goes }
+      walk-ends left = record { determinant = one; ends = ends; only = only; goes = goes }
         where
           one : detOf m ≡ pos 1
           one = reached-determinant n m r
 
           ends : fs ≡ [] → walk c ps left n m ≡ answered (m, n) t
           ends f = walk-is left Nothing (rw f refl) ∙ ap (answered (m, n)) (append-nil t)
+
+          only : (u : List Vector) → walk c ps left n m ≡ answered (m, n) u → fs ≡ []
+          only u w = go (choice m fs) refl
+            where
+              go : (y : Choice) → choice m fs ≡ y → fs ≡ []
+              go Nothing f = choice-exists m one fs f
+              go (Chosen x) f = absurd (not-here left n m x t (sym (walk-is left (Chosen x) f) ∙ w))
 
           goes : (fs ≡ [] → ⊥) → (x : Pair) × In x fs × (walk c ps left n m ≡ after t (goesOn left n m x)) × Reached c ps (suc n) (step m x)
           goes some = go (choice m fs) refl (choice-is (λ x. In x fs) m fs (each-in fs))

@@ -5,6 +5,7 @@ use mathlib.Core.List.{List, []}
 use Prim.Native.Nat.{ℕ, zero, suc, _+_, _-_, _*_, _≤_}
 use native.Mathlib.Omega.{arith}
 use lib.Dec.{T, eqb, eqb→eq, leb, leb→le}
+use mir.Facts.{and-yes}
 use lib.IntN.{ℤ, pos, negsuc}
 use lib.ListN.{length}
 use lib.Signed.{_≤ℤ_}
@@ -14,13 +15,12 @@ use Rattle.rules.specs.declared.Levels.{Levels}
 use Rattle.rules.specs.declared.Pair.{Pair}
 use Rattle.rules.specs.declared.Pair.the-variants.{P01, P02, P10, P12, P20, P21}
 use Rattle.rules.specs.Walk.{Axis, axis0, axis1, axis2, pairs, from, to, levels, level, allLevel, keep, only, remaining, takesPart, unlessLevel, levelled}
-use Rattle.laws.specs.Tests.{first-of, second-of}
 use Rattle.laws.specs.Parts.{part}
 
 -- ---- how many axes remain, and how many pairs take part: tests over all flags
 every : (f : Bool → Bool) → T (f true && f false) → (b : Bool) → T (f b)
-every f h true = first-of (f true) (f false) h
-every f h false = second-of (f true) (f false) h
+every f h true = and-yes (f true) (f false) h .0
+every f h false = and-yes (f true) (f false) h .1
 
 eachWay : (Bool → Bool) → Bool
 eachWay f = f true && f false
@@ -63,11 +63,11 @@ some-remain v h = go (allLevel v) h (every-levels (λ v. allLevel v || leb 1 (le
 -- the axes of a pair that takes part remain
 pub from-remains : (v : Levels) (x : Pair) → T (takesPart v x) → T (not (level v (from x)))
 unfolding takesPart
-from-remains v x t = first-of (not (level v (from x))) (not (level v (to x))) t
+from-remains v x t = and-yes (not (level v (from x))) (not (level v (to x))) t .0
 
 pub to-remains : (v : Levels) (x : Pair) → T (takesPart v x) → T (not (level v (to x)))
 unfolding takesPart
-to-remains v x t = second-of (not (level v (from x))) (not (level v (to x))) t
+to-remains v x t = and-yes (not (level v (from x))) (not (level v (to x))) t .1
 
 -- so there are two of them
 hasTwo : Pair → Levels → Bool
@@ -132,9 +132,9 @@ part-levelled v n axis2 = refl
 -- ---- where all are level, each is; else there is a lowest that remains
 pub all-level : (v : Levels) → T (allLevel v) → (k : Axis) → T (level v k)
 unfolding allLevel
-all-level v h axis0 = first-of (v .x) (v .y && v .z) h
-all-level v h axis1 = first-of (v .y) (v .z) (second-of (v .x) (v .y && v .z) h)
-all-level v h axis2 = second-of (v .y) (v .z) (second-of (v .x) (v .y && v .z) h)
+all-level v h axis0 = and-yes (v .x) (v .y && v .z) h .0
+all-level v h axis1 = and-yes (v .y) (v .z) (and-yes (v .x) (v .y && v .z) h .1) .0
+all-level v h axis2 = and-yes (v .y) (v .z) (and-yes (v .x) (v .y && v .z) h .1) .1
 
 pub lowest : (v : Levels) → T (not (allLevel v)) → (k : Axis) × T (not (level v k))
 unfolding allLevel

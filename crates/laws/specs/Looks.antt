@@ -1,9 +1,9 @@
 -- What the walk's questions found, on any look. A question that was answered looked at each power up to the first filled one, and no look was outside;
 -- a round asked so of each pair; a question that was refused was refused at the voxel that was to be looked at next, which lies outside.
-use mathlib.Core.Path.{_≡_, refl}
+use mathlib.Core.Path.{_≡_, refl, ap}
 use mathlib.Core.Logic.{_⊎_, inl, inr}
 use mathlib.Core.Bool.{Bool, true, false}
-use mathlib.Core.List.{List, [], _∷_}
+use mathlib.Core.List.{List, [], _∷_, _++_}
 use Prim.Native.Nat.{ℕ, _*_}
 use native.Mathlib.Nat as NatL
 use native.Mathlib.Omega.{arith}
@@ -98,10 +98,13 @@ module _ (c : Probe) where
   FellOf m [] fs = fs ≡ []
   FellOf m (x ∷ xs) fs = (b : Bool) × (gs : List Pair) × Fell (way m x) b × FellOf m xs gs × (fs ≡ keep b x gs)
 
-  -- the question of one of the pairs was refused at p
+  -- the question of one of the pairs was refused at p, those before it were answered
   pub record StoppedOf (m : Triangle) (xs : List Pair) (p : Vector) : Type 0 where
+    pub before : List Pair
     pub pair : Pair
-    pub isPair : In pair xs
+    pub behind : List Pair
+    pub split : xs ≡ before ++ (pair ∷ behind)
+    pub fell : (fs : List Pair) × FellOf m before fs
     pub stopped : Stopped (way m pair) p
 
   abbrev K : ℕ
@@ -113,13 +116,25 @@ module _ (c : Probe) where
   falling-says m (x ∷ xs) =
       few-fewer _ (omega (arith, NatL.suc-mul (length xs) K))
       (few-bind {M = K} {N = length xs * K} _ _ (says-weaker _ (λ b t h. h) here (falls-says (way m x)))
-      (λ b f. says-map _ (keep b x) (says-weaker _ (λ gs t h. h) further (falling-says m xs)) (λ gs t h. record { holds = (b, gs, f, h .holds, refl); few = h .few })))
+      (λ b f. says-map _ (keep b x) (says-weaker _ (λ gs t h. h) (further b f) (falling-says m xs)) (λ gs t h. record { holds = (b, gs, f, h .holds, refl); few = h .few })))
     where
       here : (p : Vector) (t : List Vector) → Few K (Stopped (way m x)) p t → Few K (StoppedOf m (x ∷ xs)) p t
-      here p t h = record { holds = record { pair = x; isPair = inl refl; stopped = h .holds }; few = h .few }
+      here p t h = record { holds = record { before = []; pair = x; behind = xs; split = refl; fell = ([], refl); stopped = h .holds }; few = h .few }
 
-      further : (p : Vector) (t : List Vector) → Few (length xs * K) (StoppedOf m xs) p t → Few (length xs * K) (StoppedOf m (x ∷ xs)) p t
-      further p t h = record { holds = record { pair = h .holds .pair; isPair = inr (h .holds .isPair); stopped = h .holds .stopped }; few = h .few }
+      further : (b : Bool) → Fell (way m x) b → (p : Vector) (t : List Vector) → Few (length xs * K) (StoppedOf m xs) p t → Few (length xs * K) (StoppedOf m (x ∷ xs)) p t
+      further b f p t h =
+          let o = h .holds in
+          record {
+            holds = record {
+              before = x ∷ o .before;
+              pair = o .pair;
+              behind = o .behind;
+              split = ap (λ (ys : List Pair). x ∷ ys) (o .split);
+              fell = (keep b x (o .fell .0), (b, o .fell .0, f, o .fell .1, refl));
+              stopped = o .stopped;
+            };
+            few = h .few;
+          }
 
   -- a round of the pairs ps that chose x
   module _ (ps : List Pair) where

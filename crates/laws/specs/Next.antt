@@ -1,8 +1,8 @@
 -- Refusal 8, for every pick: the voxel that was to be looked at next. The pick was asking whether minus a unit vector falls, its opposite, or a way of the triangle
 -- that the walk had reached; that question is refused there, at a power times the vector, laid in, from the apex, outside the box.
 use mathlib.Core.Path.{_≡_}
-use mathlib.Core.Bool.{false}
-use mathlib.Core.List.{List}
+use mathlib.Core.Bool.{Bool, true, false}
+use mathlib.Core.List.{List, _∷_, _++_}
 use Prim.Native.Nat.{ℕ, zero, suc}
 use lib.Dec.{T}
 use lib.IntN.{pos}
@@ -14,9 +14,19 @@ use Rattle.rules.specs.declared.Pair.{Pair}
 use Rattle.rules.specs.declared.Choice.the-variants.{Chosen}
 use Rattle.rules.specs.Vectors.{_⊕_, minus, scale, lay}
 use Rattle.rules.specs.Asked.{answered, refused}
-use Rattle.rules.specs.Walk.{Stop, stop, Probe, Axis, unit, units, pairs, way, step, level, only, takesPart, falls, isLevel}
+use Rattle.rules.specs.Walk.{Stop, stop, Probe, Axis, axis0, axis1, axis2, unit, units, pairs, way, step, level, only, takesPart, falls, isLevel}
 use Rattle.laws.specs.Tests.{In}
-use Rattle.laws.specs.Looks.{Fell, Stopped, RoundOf}
+use Rattle.laws.specs.Looks.{Fell, FellOf, Stopped, StoppedOf, RoundOf}
+
+-- axis 0, 1, 2, in this order
+abbrev pub earlier : Axis → Axis → Bool
+earlier axis0 axis0 = false
+earlier axis0 axis1 = true
+earlier axis0 axis2 = true
+earlier axis1 axis0 = false
+earlier axis1 axis1 = false
+earlier axis1 axis2 = true
+earlier axis2 k = false
 
 module _ (c : Probe) where
   -- each axis was asked, and v has those that are level
@@ -28,11 +38,25 @@ module _ (c : Probe) where
   Reached ps zero m = m ≡ units
   Reached ps (suc n) m = (k : Triangle) × (x : Pair) × Reached ps n k × RoundOf c ps k (Chosen x) × (m ≡ step k x)
 
-  -- why it is asked, after n steps, whether u falls
+  -- the axes before k were asked, and none was refused
+  abbrev pub EarlierAnswered : Axis → Type 0
+  EarlierAnswered k = (j : Axis) → T (earlier j k) → (b : Bool) × (voxels : List Vector) × (isLevel c (unit j) ≡ answered b voxels)
+
+  -- the pair x is one of ps, and of those before it these fell and the others did not
+  pub record TurnOf (ps : List Pair) (m : Triangle) (x : Pair) : Type 0 where
+    pub before : List Pair
+    pub behind : List Pair
+    pub split : ps ≡ before ++ (x ∷ behind)
+    pub fell : (fs : List Pair) × FellOf c m before fs
+
+  -- why it is asked, after n steps, whether u falls: all that is asked before was answered
   pub data Question (n : ℕ) (u : Vector) : Type 0 where
-    downward : (k : Axis) → n ≡ 0 → u ≡ minus (unit k) → Question n u
-    opposite : (k : Axis) → n ≡ 0 → u ≡ unit k → Fell c (minus (unit k)) false → Question n u
-    sideways : (v : Levels) → LevelsAnswered v → (m : Triangle) → Reached (only (takesPart v) pairs) n m → (x : Pair) → T (takesPart v x) → u ≡ way m x → Question n u
+    downward : (k : Axis) → n ≡ 0 → EarlierAnswered k → u ≡ minus (unit k) → Question n u
+    opposite : (k : Axis) → n ≡ 0 → EarlierAnswered k → Fell c (minus (unit k)) false → u ≡ unit k → Question n u
+    sideways : (v : Levels) → LevelsAnswered v → (m : Triangle) → Reached (only (takesPart v) pairs) n m → (x : Pair) → TurnOf (only (takesPart v) pairs) m x → u ≡ way m x → Question n u
+
+  pub turn-of : {ps : List Pair} {m : Triangle} {p : Vector} (o : StoppedOf c m ps p) → TurnOf ps m (o .pair)
+  turn-of o = record { before = o .before; behind = o .behind; split = o .split; fell = o .fell }
 
   pub record NextLook (r : Stop) : Type 0 where
     pub vector : Vector

@@ -1,4 +1,4 @@
--- The rule of the whole pick, over any look: what is said of its parts, in their order, is said of it. p and q are passed before they are looked at,
+-- The rule of the whole pick, over any look: what is said of its parts, in their order, is said of it. p and q are judged before they are looked at,
 -- so refusal 8 is not given there. Everything is said of the voxels looked at so far, in order.
 use mathlib.Core.Path.{_≡_, refl}
 use mathlib.Core.Bool.{Bool, true, false, not}
@@ -57,7 +57,7 @@ module _ (ok : Bool) (look : Vector → Look) (p : Vector) (frame reach : ℤ) w
     pub ten : Faced → (v : Levels) (e : Triangle × ℕ) (t : List Vector) → Ended v e t → T (not (leb (size (levelled v (normal (e .0)))) (natAbs reach))) → Stops (stop 10 (probe look p frame reach .apex) (e .1)) t
     pub ends : Faced → (v : Levels) (e : Triangle × ℕ) (t : List Vector) → Ended v e t → T (leb (size (levelled v (normal (e .0)))) (natAbs reach)) → Finds (found (probe look p frame reach) v e) t
 
-  -- a look at a voxel that was passed inside
+  -- a look at a voxel that was judged inside
   looked : {G : Stop → List Vector → Type 0} (a : Vector) → T (isInside (look a)) → Says (λ b t. (look a ≡ As b) × (t ≡ a ∷ [])) G (asked 0 (lookAt (c .look) a))
   looked a i = says-asked 0 _ (λ r t h. absurd (not-outside look a i (h .1))) (look-says c a)
 

@@ -5,22 +5,18 @@ use mathlib.Core.List.{List, [], _∷_, _++_}
 use Prim.Native.Nat.{ℕ, zero, suc, _+_, _*_, _-_, _≤_, max}
 use native.Mathlib.Nat as NatL
 use native.Mathlib.Omega.{arith}
-use lib.Dec.{T, leb→le}
+use lib.Dec.{leb→le}
 use lib.ListN.{length, length-append}
-use lib.IntN.{ℤ, pos, negsuc, natAbs}
-use lib.Signed.{_≤ℤ_}
-use Rattle.integers.specs.Order.{parts}
+use lib.IntN.{ℤ, natAbs}
 use Rattle.rules.specs.declared.Vector.{Vector}
 use Rattle.rules.specs.declared.Look.{Look}
 use Rattle.rules.specs.declared.Levels.{Levels}
 use Rattle.rules.specs.declared.Triangle.{Triangle}
 use Rattle.rules.specs.declared.Pair.{Pair}
 use Rattle.rules.specs.Vectors.{size}
-use Rattle.rules.specs.Solids.{between}
 use Rattle.rules.specs.Walk.{Stop, stop, powers, Axis, units, way, pairs, normal, keep, only, remaining, takesPart, levelled, Probe, Found, rounds, found}
 use Rattle.rules.specs.Pick.{probe, pick}
 use Rattle.laws.specs.Tests.{Each}
-use Rattle.laws.specs.Only.{only-in}
 use Rattle.laws.specs.Tame.{Tame, units-tame, step-tame}
 use Rattle.laws.specs.Levels.{at-most-3, pairs-taking, some-remain, two-remain}
 use Rattle.laws.specs.Flat.{Flat, units-flat, step-flat}
@@ -28,12 +24,12 @@ use Rattle.laws.specs.Choosing.{choice-exists}
 use Rattle.laws.specs.Says.{Says, Few, fewer, says-weaker}
 use Rattle.laws.specs.Looks.{Fell, FellOf, StoppedOf}
 use Rattle.laws.specs.Chosen.{chosen-only}
-use Rattle.laws.specs.Next.{Reached, sideways, NextLook, next-look}
+use Rattle.laws.specs.Next.{Reached, sideways, turn-of, NextLook, next-look}
 use Rattle.laws.specs.Axes.{AxesOf, levels-answered, AxisRule, axes-says}
 use Rattle.laws.specs.Powers.{looks-add-up, three-most}
 use Rattle.laws.specs.Walks.{WalkRule, walk-says}
 use Rattle.laws.specs.PickRule.{Passed, Faced, PickRule, pick-by-rule}
-use Rattle.range.specs.Ranges.{between-yes}
+use Rattle.range.specs.Ranges.{between-naturals}
 
 -- ---- what a refusal tells
 -- n steps: at most R - 2, and where one was taken, at most R less the axes that remained when they were asked
@@ -93,7 +89,7 @@ module _ (c : Probe) (R : ℕ) (v : Levels) (asked : AxesOf c v) where
       most (suc n) h k = omega (arith, h, k (omega arith))
 
   sideways-look : (m : Triangle) (n : ℕ) → Reached c (only (takesPart v) pairs) n m → {p : Vector} → StoppedOf c m (only (takesPart v) pairs) p → NextLook c (stop 8 p n)
-  sideways-look m n h o = let x = o .pair in next-look c (way m x) (sideways v (levels-answered c asked) m h x (only-in (takesPart v) x pairs (o .isPair)) refl) (o .stopped)
+  sideways-look m n h o = next-look c (way m (o .pair)) (sideways v (levels-answered c asked) m h (o .pair) (turn-of c o) refl) (o .stopped)
 
   every-walk : WalkRule c (only (takesPart v) pairs) (Kept c R v) (End c R v) (Refusal c R)
   every-walk = record {
@@ -134,14 +130,6 @@ pub record Accepting (c : Probe) (R : ℕ) (f : Found) : Type 0 where
   pub end : End c R level at
   pub fits : size (levelled level (normal (at .0))) ≤ R
 
--- from 1 to 256
-pub permitted-reach : (reach : ℤ) → T (between (pos 1) reach (pos 256)) → (1 ≤ natAbs reach) × (natAbs reach ≤ 256) × (reach ≡ pos (natAbs reach))
-permitted-reach reach t = go reach (between-yes (pos 1) reach (pos 256) t)
-  where
-    go : (z : ℤ) → (pos 1 ≤ℤ z) × (z ≤ℤ pos 256) → (1 ≤ natAbs z) × (natAbs z ≤ 256) × (z ≡ pos (natAbs z))
-    go (pos n) h = (omega (arith, parts, h .0), omega (arith, parts, h .1), refl)
-    go (negsuc n) h = absurd (h .0 .le)
-
 module _ (ok : Bool) (look : Vector → Look) (p : Vector) (frame reach : ℤ) where
   abbrev c : Probe
   c = probe look p frame reach
@@ -152,7 +140,7 @@ module _ (ok : Bool) (look : Vector → Look) (p : Vector) (frame reach : ℤ) w
   abbrev K : ℕ
   K = length (powers (natAbs reach))
 
-  -- what was passed before the walk, and the walk's end
+  -- what was judged before the walk, and the walk's end
   pub record PickFound (f : Found) : Type 0 where
     pub passed : Passed ok look p frame reach
     pub accepting : Accepting (probe look p frame reach) (natAbs reach) f
@@ -182,7 +170,7 @@ module _ (ok : Bool) (look : Vector → Look) (p : Vector) (frame reach : ℤ) w
         omega (arith, enough small, looks-add-up K r (length (only (takesPart v) pairs)) (R - r) n l (at-most-3 v) h k, NatL.mul-le-mul-left K most)
 
     small : Passed ok look p frame reach → R ≤ 256
-    small h = permitted-reach reach (h .permittedReach) .1
+    small h = between-naturals 1 256 reach (h .permittedReach) .1
 
     -- at once, or after the looks at p and q
     at-once : {number : ℕ} {a : Vector} {t : List Vector} → (number ≡ 8 → ⊥) → length t ≤ N → Few N RefusalHere (stop number a 0) t

@@ -8,6 +8,7 @@ use Prim.Native.Nat.{ℕ, zero, suc, _*_, _≤_}
 use native.Mathlib.Nat as NatL
 use native.Mathlib.Omega.{arith}
 use lib.Dec.{T, leb, leb→le, nleb→lt}
+use mir.Facts.{yes-and}
 use lib.IntN.{ℤ, pos, negsuc, negℤ, natAbs, _+ℤ_, _-ℤ_, _*ℤ_}
 use lib.Signed.{_≤ℤ_}
 use Rattle.integers.specs.Reify.{byring, sides, by-eq}
@@ -26,7 +27,7 @@ use Rattle.rules.specs.Vectors.{_⊖_, minus, lay, dot, cross, det}
 use Rattle.rules.specs.Walk.{Axis, axis0, axis1, axis2, unit, pairs, way, level, only, takesPart, Probe}
 use Rattle.rules.specs.Solids.{permittedStack, look}
 use Rattle.rules.specs.Pick.{isInside, pickOf}
-use Rattle.laws.specs.Tests.{both}
+use Rattle.range.specs.Ranges.{between-naturals}
 use Rattle.laws.specs.Only.{each-member, taking-in}
 use Rattle.laws.specs.Parts.{part, part-of, part-sum, part-scale, part-minus, part-lay, difference-turned}
 use Rattle.laws.specs.Triples.{detOf, of9}
@@ -36,7 +37,7 @@ use Rattle.laws.specs.Powers.{Reaches, powers-128}
 use Rattle.laws.specs.Ranges.{Between, InCube}
 use Rattle.laws.specs.Boxes.{stack-cube}
 use Rattle.laws.specs.Axes.{FellAlong, AxesOf}
-use Rattle.laws.specs.Picks.{End, PickFound, permitted-reach}
+use Rattle.laws.specs.Picks.{End, PickFound}
 use Rattle.laws.specs.Answers.{foundOf, accepted-tells}
 
 -- two ways that did not fall were looked at, at one power of at least M, inside the box
@@ -116,14 +117,14 @@ module _ (c : Probe) (box : (p : Vector) → T (isInside (c .look p)) → InCube
       let stood : (x : Pair) → T (takesPart v x) → Fell c (way m x) false = λ x t. each-member (λ x. Fell c (way m x) false) x (only (takesPart v) pairs) (h .stood) (taking-in v x t) in
       let x = no-level axis0 (level v axis0) (a .axis axis0 .fell) in
       let y = no-level axis1 (level v axis1) (a .axis axis1 .fell) in
-      let f = stood P01 (both (not (v .x)) (not (v .y)) x y) in
-      let g = subst (λ u. Fell c u false) (difference-turned (m .m0) (m .m1)) (stood P10 (both (not (v .y)) (not (v .x)) y x)) in
+      let f = stood P01 (yes-and (not (v .x)) (not (v .y)) x y) in
+      let g = subst (λ u. Fell c u false) (difference-turned (m .m0) (m .m1)) (stood P10 (yes-and (not (v .y)) (not (v .x)) y x)) in
       let o : pos 1 ≡ pos 0 = sym (h .tame .unimodular) ∙ equal-flat m (still (way m P01) f g) in
       omega (arith, parts)
 
 pub stack-reach : (stack : Stack) (bytes : List ℕ) (p : Vector) (frame reach : ℤ) (a : AcceptedPick) → pickOf (IsStack stack) bytes p frame reach ≡ Accepted a → reach ≤ℤ pos 64
 stack-reach stack bytes p frame reach a is =
-    let R = permitted-reach reach (h .passed .permittedReach) in
+    let R = between-naturals 1 256 reach (h .passed .permittedReach) in
     let small = go (leb (natAbs reach) 64) refl in
     omega (arith, parts, R .2)
   where

@@ -28,9 +28,13 @@ pub record Gives {E A : Type 0} (n : ℕ) (x : Asked E A) (r : Tally E A) : Type
 pub gives-settled : {E A R : Type 0} {n : ℕ} {x : Asked E A} {p o : Tally E A} {r t : R} (made : Tally E A → R) → made p ≡ r → made o ≡ t → Gives n x p → Gives n x o → r ≡ t
 gives-settled made i j h k = sym i ∙ ap made (h .is ∙ sym (k .is)) ∙ j
 
--- so many falls questions more can be counted in 32 bits, each with at most 512 looks
+-- ---- how many looks so many falls questions may take. A question takes nine at most; 512, which no power of a permitted reach exceeds, bounds them without counting
+abbrev pub mostLooks : ℕ → ℕ
+mostLooks questions = 512 * questions
+
+-- so many questions more can be counted in 32 bits
 abbrev pub Countable : ℕ → ℕ → Type 0
-Countable questions looks = looks + 512 * questions ≤ 4294967295
+Countable questions looks = looks + mostLooks questions ≤ 4294967295
 
 -- ---- one question and then another
 counts-on : (n : ℕ) (t s : List Vector) → n + length t + length s ≡ n + length (t ++ s)

@@ -1,7 +1,7 @@
 -- Tests that passed or failed, and what holds of each member of a list.
 use mathlib.Core.Path.{_≡_, refl}
 use mathlib.Core.Logic.{_⊎_, inl, inr}
-use mathlib.Core.Bool.{Bool, true, false, not, _&&_}
+use mathlib.Core.Bool.{Bool, true, false, not}
 use mathlib.Core.List.{List, [], _∷_}
 use lib.Dec.{T}
 use lib.IntN.{ℤ}
@@ -18,18 +18,6 @@ is-false false h = refl
 pub is-not : (b : Bool) → T (not b) → b ≡ false
 is-not true h = absurd h
 is-not false h = refl
-
-pub both : (a b : Bool) → T a → T b → T (a && b)
-both true b h k = k
-both false b h k = absurd h
-
-pub first-of : (a b : Bool) → T (a && b) → T a
-first-of true b h = tt
-first-of false b h = absurd h
-
-pub second-of : (a b : Bool) → T (a && b) → T b
-second-of true b h = h
-second-of false b h = absurd h
 
 pub less : (a b : ℤ) → a <ℤ b → ltZ a b ≡ true
 less a b h = is-true (ltZ a b) (h .lt)

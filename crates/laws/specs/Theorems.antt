@@ -26,7 +26,7 @@ use Rattle.rules.specs.declared.Pick.the-variants.{Accepted, Refused}
 use Rattle.rules.specs.Vectors.{_⊕_, scale, dot, lay}
 use Rattle.rules.specs.Solids.{box, inBox, permitted, look}
 use Rattle.rules.specs.Asked.{answered}
-use Rattle.rules.specs.Walk.{signs, powers, Axis, axis0, axis1, axis2, unit, units, vectorOf, pairs, second, way, step, levels, level, keep, only, remaining, takesPart, determinant, inside, choice, Probe, laid, falling, round}
+use Rattle.rules.specs.Walk.{signs, powers, Axis, axis0, axis1, axis2, unit, units, vectorOf, pairs, second, way, step, levels, level, keep, only, remaining, takesPart, determinant, inside, choice, Probe, laid, falling, round, walk}
 use Rattle.rules.specs.Pick.{isInside, probe, pick, pickOf}
 use Rattle.laws.specs.Tests.{In}
 use Rattle.laws.specs.Parts.{NonNegative, Positive, part, parts-by}
@@ -49,12 +49,12 @@ use Rattle.laws.specs.Next.{LevelsAnswered, Reached, NextLook}
 use Rattle.laws.specs.Axes.{levels-answered}
 use Rattle.laws.specs.Answered.{voxelsOf}
 use Rattle.laws.specs.Ended as Ended
-use Rattle.laws.specs.Ended.{EndsIfNoneFalls}
+use Rattle.laws.specs.Ended.{Stood, EndsIfNoneFalls, end-stood}
 use Rattle.laws.specs.PickParts.{PickParts, pick-parts}
 use Rattle.laws.specs.BothWays.{BothWays, parts-levels, levels-looked, sides-looked}
 use Rattle.laws.specs.Picks.{Accepting}
 use Rattle.laws.specs.Answers as Answers
-use Rattle.laws.specs.Answers.{stepsOf, looksOf, foundOf, stopOf, accepted-answer, accepted-tells, refused-tells, few-steps, accepting-determinant, accepting-products, accepting-generated, accepting-signs, accepting-steps, accepting-stays, accepting-axes}
+use Rattle.laws.specs.Answers.{stepsOf, looksOf, foundOf, stopOf, voxels-counted, accepted-answer, accepted-tells, refused-tells, few-steps, accepting-determinant, accepting-products, accepting-generated, accepting-signs, accepting-steps, accepting-stays, accepting-axes}
 use Rattle.laws.specs.Stacks as Stacks
 
 -- ---- the powers are 1, 2, 4, .. up to the first that is at least R
@@ -83,10 +83,20 @@ not-inside-itself = Choosing.not-inside-itself
 pub best-is-choice : (m : Triangle) → detOf m ≡ pos 1 → (falling : List Pair) → best m Nothing falling ≡ choice m falling
 best-is-choice = Choosing.best-is-choice
 
--- ---- so the definition's walk ends exactly if no pair falls: at every triangle that a walk of the pairs ps meets, whatever follows, the determinant is 1;
--- where none of the pairs fell it ends there, else it steps by one that fell, or refuses 9 where no step is left
+-- ---- every triangle that a walk of the pairs ps meets has determinant 1, whatever follows
+pub reached-determinant : (c : Probe) (ps : List Pair) (n : ℕ) (m : Triangle) → Reached c ps n m → detOf m ≡ pos 1
+reached-determinant = Ended.reached-determinant
+
+-- so the definition's walk ends exactly if no pair falls: where the round at such a triangle was answered and none of the pairs fell it ends there, and it ends there only so;
+-- else it steps by one that fell, or refuses 9 where no step is left
 pub walk-ends : (c : Probe) (ps : List Pair) (n : ℕ) (m : Triangle) → Reached c ps n m → (fell : List Pair) (voxels : List Vector) → falling c m ps ≡ answered fell voxels → (left : ℕ) → EndsIfNoneFalls c ps left n m fell voxels
 walk-ends c ps n m r fell voxels e left = Ended.walk-ends c ps n m r e left
+
+-- and a walk that ends has looked at the way of each pair of its last triangle, at every power, so at the last: each voxel there is among those looked at, and empty.
+-- With a pair (k, l) the pair (l, k) takes part, so it has looked both ways
+pub walk-looked : (c : Probe) (ps : List Pair) (left : ℕ) {end : Triangle × ℕ} {voxels : List Vector} → walk c ps left 0 units ≡ answered end voxels
+    → (x : Pair) → In x ps → Stood c voxels (lay (c .signs) (way (end .0) x))
+walk-looked c ps left = end-stood c ps left 0 units units-determinant
 
 -- ---- each part of every triangle vector stays within 1023: it does at the beginning, and if it does before a round that was answered, it does after a step by any pair that the round asked
 pub units-within : All (Bounded 1023) units
@@ -133,6 +143,10 @@ module _ (solid : Solid) (bytes : List ℕ) (p : Vector) (frame reach : ℤ) whe
   abbrev pub lookedAt : List Vector
   lookedAt = voxelsOf (pick (permitted solid bytes) (look solid bytes) p frame reach)
 
+  pub looked-counted : looksOf (pickOf solid bytes p frame reach) ≡ length lookedAt
+  unfolding pickOf
+  looked-counted = voxels-counted (pick (permitted solid bytes) (look solid bytes) p frame reach)
+
   -- u and its opposite from q: at each power the voxel there is one of those, and empty
   abbrev pub LookedBothWays : Vector → Type 0
   LookedBothWays = BothWays (probe (look solid bytes) p frame reach) lookedAt
@@ -176,7 +190,6 @@ module _ (solid : Solid) (bytes : List ℕ) (p : Vector) (frame reach : ℤ) whe
     pub accepted-generated : (v : Vector) → dot (a .normal) v ≡ pos 0 → Combines (generators (levelsOf (a .normal)) (a .triangle)) v
     accepted-generated = accepting-generated accepting signed
 
-    -- a walk that ends has looked both ways from q, at every power, so at the last: along each level axis, and along each side between two other corners
     parts-here : PickParts c (natAbs reach) (foundOf a) lookedAt
     unfolding pickOf
     parts-here = pick-parts _ _ p frame reach (accepted-answer (pick (permitted solid bytes) (look solid bytes) p frame reach) is)
@@ -184,6 +197,7 @@ module _ (solid : Solid) (bytes : List ℕ) (p : Vector) (frame reach : ℤ) whe
     levels-here : parts-here .levels ≡ levelsOf (a .normal)
     levels-here = parts-levels c parts-here accepted-levels
 
+    -- it has looked both ways from q, at every power, so at the last: along each level axis, and along each side between two other corners
     pub level-both-ways : (k : Axis) → T (level (levelsOf (a .normal)) k) → LookedBothWays (lay s (unit k))
     level-both-ways k l = levels-looked c parts-here k (rw levels-here l)
 

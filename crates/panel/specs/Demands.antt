@@ -46,7 +46,7 @@ pub record FlatSame (a b : FlatPick) : Type 0 where
   pub triangles : (a .m0 ≡ b .m0) × (a .m1 ≡ b .m1) × (a .m2 ≡ b .m2)
   pub steps : a .steps ≡ b .steps
 
--- a host's call with these inputs answered r
+-- the promise of a host's call with these inputs allows r
 pub data Called (i : Inputs) (r : FlatPick) : Type 0 where
   wedgeCalled : (wedge : Wedge) (p : Vector) (frame reach : ℤ) → i ≡ ofWedge wedge p frame reach → PickedWedge wedge p frame reach r → Called i r
   stackCalled : (stack : Stack) (bytes : List ℕ) (p : Vector) (frame reach : ℤ) → i ≡ ofStack stack bytes p frame reach → PickedStack stack bytes p frame reach r → Called i r
@@ -60,7 +60,7 @@ pub record HostDemand (OnSlope : Vector → ℤ → Inputs → Type 0) (OnWedge 
       → (r : FlatPick) → PickedStack stack bytes p frame reach r → FlatDemanded (AcceptedWith n (ofStack stack bytes p frame reach)) (ofStack stack bytes p frame reach) r
   -- any two calls, of wedges or of stacks, that were accepted
   pub twoPicks : (n : Vector) (t u : ℤ) (i j : Inputs) → OnSlope n t i → OnSlope n u j → Together i j → (a b : FlatPick) → Called i a → Called j b → a .number ≡ 0 → b .number ≡ 0 → FlatSame a b
-  -- a test wedge is a slope, common divisor or not
+  -- a test wedge is a slope, common divisor or not, so two picks of wedges are two calls on slopes
   pub wedgeSlope : (g : ℤ) (n : Vector) (wedge : Wedge) (p : Vector) (frame reach : ℤ) → OnWedge g n wedge p frame reach → (t : ℤ) × OnSlope n t (ofWedge wedge p frame reach)
 
 -- as document 02 reads it: two picks are compared in one frame

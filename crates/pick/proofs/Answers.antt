@@ -22,7 +22,7 @@ use Rattle.rules.specs.Vectors.{_⊕_, origin, lay, size}
 use Rattle.rules.specs.Solids.{between, permitted, box, inBox, look}
 use Rattle.rules.specs.Asked.{Asked, answered, refused}
 use Rattle.rules.specs.Walk.{Stop, stop, signs, levelled, normal, Probe, Found, laid, start, rounds, found, end}
-use Rattle.rules.specs.Pick.{isInside, probe, placing, judging, pick, accepted, refusal, answer, pickOf}
+use Rattle.rules.specs.Pick.{isInside, probe, placing, judging, pick, acceptedAnswer, refusedAnswer, answer, pickOf}
 use Rattle.laws.specs.Frames.{Signs, signs-are}
 use Rattle.laws.specs.Boxes.{look-inside}
 use Rattle.laws.specs.Tally.{Tally, yes, no, tally, Gives, Countable, then-yes, then-no, ensured, not-ensured, at-once}
@@ -30,7 +30,7 @@ use Rattle.solid.specs.Asks.{PermittedSolid}
 use Rattle.falls.specs.declared.Scene.{Scene}
 use Rattle.falls.specs.Scene.{probeOf, Ready}
 use Rattle.round.specs.Round.{Sound}
-use Rattle.walk.specs.Walk.{refusalOf, walkTally, Walks}
+use Rattle.walk.specs.Walk.{refusalOf, walkTally, walkQuestions, Walks}
 use Rattle.walk.specs.declared.Walked.{Walked}
 use Rattle.walk.specs.declared.Walked.the-variants.{Ended as WalkEnded, Refused as WalkRefused}
 use Rattle.start.specs.Start.{startTally, startLooks, Started}
@@ -116,8 +116,8 @@ module _ (allowed : Bool) (look : Vector → Look) (p : Vector) (frame reach : �
 
 -- ---- the answer is the definition's
 answerOf : Tally Stop Found → Pick
-answerOf (yes f n) = Accepted (accepted f n)
-answerOf (no e n) = IsRefused (refusal e n)
+answerOf (yes f n) = Accepted (acceptedAnswer f n)
+answerOf (no e n) = IsRefused (refusedAnswer e n)
 
 tally-of : (r : Pick) → r ≡ answerOf (pickTally r)
 unfolding answerOf
@@ -199,7 +199,7 @@ module _ {solid : Solid} {bytes : List ℕ} {p : Vector} {frame reach : ℤ} {fi
   pub scene-signed : Signs (v .signs)
   scene-signed = scene-ready .signed
 
-pub begun-countable : {c : Probe} {p : Vector} {begun : Start} {level : Levels} {n : ℕ} → Started c p begun → begun ≡ Begun level n → Countable 1542 n
+pub begun-countable : {c : Probe} {p : Vector} {begun : Start} {level : Levels} {n : ℕ} → Started c p begun → begun ≡ Begun level n → Countable walkQuestions n
 begun-countable h e = omega (arith, h .few, ap startLooks e)
 
 pub end-sound : {c : Probe} {R : ℕ} {level : Levels} {looks : ℕ} {walked : Walked} {m : Triangle} {steps k : ℕ} → Walks c R level looks walked → walked ≡ WalkEnded m steps k → Sound m

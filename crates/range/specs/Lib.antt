@@ -1,2 +1,3 @@
+-- What a number in a range tells.
 pub mod Ranges
 pub mod Judged

@@ -3,7 +3,7 @@
 use mathlib.Core.Path.{_≡_, refl, sym, ap, subst, _∙_}
 use mathlib.Core.Bool.{Bool, true, false}
 use mathlib.Core.List.{List, [], _∷_}
-use Prim.Native.Nat.{ℕ, suc, _+_, _*_, _≤_, _<_}
+use Prim.Native.Nat.{ℕ, suc, _+_, _≤_, _<_}
 use native.Mathlib.Omega.{arith}
 use lib.IntN.{pos}
 use lib.ListN.{length}
@@ -17,7 +17,7 @@ use Rattle.rules.specs.declared.Choice.the-variants.{Nothing, Chosen}
 use Rattle.rules.specs.Vectors.{_⊕_, lay}
 use Rattle.rules.specs.Asked.{Asked, answered, _>>=_}
 use Rattle.rules.specs.Walk.{pairs, only, keep, takesPart, way, determinant, inside, Probe, falls, falling, round}
-use Rattle.laws.specs.Tally.{Tally, yes, no, tally, Gives, Countable, then-yes, inner-yes, inner-no, made-twice, at-once}
+use Rattle.laws.specs.Tally.{Tally, yes, no, tally, Gives, mostLooks, Countable, then-yes, inner-yes, inner-no, made-twice, at-once}
 use Rattle.falls.specs.declared.Falls.{Falls}
 use Rattle.falls.specs.declared.Falls.the-variants.{Fell, Kept, Stopped as Stops}
 use Rattle.falls.specs.Falls.{fallsTally, fallsLooks, Fallen}
@@ -140,7 +140,7 @@ module _ (c : Probe) (m : Triangle) (level : Levels) (n : ℕ) where
   pub record Asking (x : Pair) (sofar : Round) : Type 0 where
     pub rest-gives : rest c m (taking level (x ∷ behind x)) (roundTally sofar) ≡ tally n (round c (taking level pairs) m)
     pub weighed : Weighed m sofar
-    pub few : roundLooks sofar + 512 * suc (left x) ≤ n + 3072
+    pub few : roundLooks sofar + mostLooks (suc (left x)) ≤ n + mostLooks 6
 
   abbrev Goes : Pair → Choice → Round → Type 0
   Goes x Nothing r = RoundAsked c m level n r

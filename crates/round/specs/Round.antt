@@ -18,7 +18,7 @@ use Rattle.rules.specs.Walk.{pairs, only, takesPart, way, Probe, falling, round
 use Rattle.laws.specs.Triples.{detOf}
 use Rattle.laws.specs.Choosing.{better, best}
 use Rattle.laws.specs.Ranges.{Bounded}
-use Rattle.laws.specs.Tally.{Tally, yes, no, tally, Gives}
+use Rattle.laws.specs.Tally.{Tally, yes, no, tally, Gives, mostLooks}
 use Rattle.round.specs.declared.Best.{Best}
 use Rattle.round.specs.declared.Round.{Round}
 use Rattle.round.specs.declared.Round.the-variants.{Asked as IsAsked, Stopped}
@@ -93,16 +93,16 @@ module _ (c : Probe) (m : Triangle) where
   pub record WayAsked (x : Pair) (k : Best) (n : ℕ) (r : Round) : Type 0 where
     pub is : (ps : List Pair) → rest ps (roundTally r) ≡ rest (x ∷ ps) (yes (k .choice) n)
     pub weighed : Weighed m r
-    pub few : roundLooks r ≤ n + 512
+    pub few : roundLooks r ≤ n + mostLooks 1
 
   module _ (level : Levels) where
     -- the same, with the pair x asked if it takes part
     pub record PairAsked (x : Pair) (before r : Round) : Type 0 where
       pub is : (ps : List Pair) → rest (taking level ps) (roundTally r) ≡ rest (taking level (x ∷ ps)) (roundTally before)
       pub weighed : Weighed m r
-      pub few : roundLooks r ≤ roundLooks before + 512
+      pub few : roundLooks r ≤ roundLooks before + mostLooks 1
 
     pub record RoundAsked (looks : ℕ) (r : Round) : Type 0 where
       pub gives : Gives looks (round c (taking level pairs) m) (roundTally r)
       pub weighed : Weighed m r
-      pub few : roundLooks r ≤ looks + 3072
+      pub few : roundLooks r ≤ looks + mostLooks 6

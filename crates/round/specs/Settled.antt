@@ -1,4 +1,4 @@
--- What `ask_round` ensures settles its answer: the choice is roundTally, and the best pair's row is settled by the choice.
+-- What `ask_round` ensures settles its answer: the tally has the choice, and the choice settles the best pair's row.
 use mathlib.Core.Path.{_≡_, refl, sym, ap}
 use Prim.Native.Nat.{ℕ}
 use Rattle.rules.specs.declared.Vector.{Vector}

@@ -22,12 +22,13 @@ use Rattle.rules.specs.Solids.{between, permitted, look}
 use Rattle.rules.specs.Asked.{Asked, answered, refused, _>>=_, _>>_}
 use Rattle.rules.specs.Walk.{Stop, stop, ensure, signs, powers, Found, Probe, start, rounds, end}
 
+-- in the box, as the look has it
 unfoldable pub isInside : Look → Bool
 isInside Filled = true
 isInside Empty = true
 isInside Outside = false
 
--- what the walk is about
+-- s is the three signs, and the apex is q = p + s
 abbrev pub probe : (Vector → Look) → Vector → ℤ → ℤ → Probe
 probe look p frame reach = let s = signs (natAbs frame) in record { look = look; apex = p ⊕ s; signs = s; powers = powers (natAbs reach) }
 
@@ -59,15 +60,15 @@ module _ (permitted : Bool) (look : Vector → Look) (p : Vector) (frame reach :
     end c (natAbs reach) v e
 
 -- the answer's two cases: accepted with its record, or refused with number, place and counts
-abbrev pub accepted : Found → ℕ → AcceptedPick
-accepted f looks = record { normal = f .normal; triangle = f .triangle; apex = f .apex; steps = f .steps; looks = looks }
+abbrev pub acceptedAnswer : Found → ℕ → AcceptedPick
+acceptedAnswer f looks = record { normal = f .normal; triangle = f .triangle; apex = f .apex; steps = f .steps; looks = looks }
 
-abbrev pub refusal : Stop → ℕ → RefusedPick
-refusal r looks = record { number = r .number; place = r .place; steps = r .steps; looks = looks }
+abbrev pub refusedAnswer : Stop → ℕ → RefusedPick
+refusedAnswer r looks = record { number = r .number; place = r .place; steps = r .steps; looks = looks }
 
 unfoldable pub answer : Asked Stop Found → Pick
-answer (answered f t) = Accepted (accepted f (length t))
-answer (refused r t) = Refused (refusal r (length t))
+answer (answered f t) = Accepted (acceptedAnswer f (length t))
+answer (refused r t) = Refused (refusedAnswer r (length t))
 
 -- a pick of a solid with its lent bytes
 unfoldable pub pickOf : Solid → List ℕ → Vector → ℤ → ℤ → Pick

@@ -177,7 +177,7 @@ levelled v n = vector (unlessLevel (v .x) (n .x)) (unlessLevel (v .y) (n .y)) (u
 unfoldable pub determinant : Triangle → Pair → Pair → ℤ
 determinant m x y = sphere (m .m0 ⊖ m .m1) (m .m0 ⊖ m .m2) (m .m0 ⊕ way m x) (m .m0 ⊕ way m y)
 
--- y is strictly inside the sphere through the triangle and x exactly if it is negative (x is never inside its own: theorem `not-inside-itself`)
+-- y is strictly inside the sphere through the triangle and x exactly if it is negative (x is never inside its own, the determinant being 1: theorem `not-inside-itself`)
 unfoldable pub inside : Triangle → Pair → Pair → Bool
 inside m x y = ltZ (determinant m x y) (pos 0)
 
@@ -190,7 +190,7 @@ unfoldable pub firstFree : Triangle → List Pair → List Pair → Choice
 firstFree m falling [] = Nothing
 firstFree m falling (x ∷ xs) = elim (anyInside m x falling) [ false ↦ Chosen x | true ↦ firstFree m falling xs ]
 
--- the first falling pair whose sphere has no other falling candidate strictly inside. Nothing only if none falls: theorem `choice-exists`
+-- the first falling pair whose sphere has no other falling candidate strictly inside. Nothing only if none falls, at every triangle that a walk meets: theorem `walk-ends`
 unfoldable pub choice : Triangle → List Pair → Choice
 choice m falling = firstFree m falling falling
 
@@ -199,7 +199,7 @@ module _ (look : Vector → Look) where
   unfoldable pub lookAt : Vector → Asked Vector Bool
   lookAt p = seen (look p) p
 
-  -- a vector u, laid in, falls if q + l·u is filled for some power l. Powers are looked at upward and asking stops at the first filled one
+  -- from q, at these powers: upward, and asking stops at the first filled one
   unfoldable pub fallsAt : Vector → Vector → List ℕ → Asked Vector Bool
   fallsAt q u [] = answered false []
   fallsAt q u (l ∷ ls) = do
@@ -231,6 +231,7 @@ module _ (c : Probe) where
   abbrev s : Vector
   s = c .signs
 
+  -- a vector u, laid in, falls if q + l·u is filled for some power l. Powers are looked at upward and asking stops at the first filled one
   abbrev pub falls : Vector → Asked Vector Bool
   falls u = fallsAt (c .look) q u (c .powers)
 
@@ -263,6 +264,7 @@ module _ (c : Probe) where
     ensure (not (allLevel (levels x y z))) (stop 7 (q ⊕ lay s (minus (unit axis0))) 0)
     answered (levels x y z) []
 
+  -- 1 and 2: which axes are level
   unfoldable pub start : Vector → Asked Stop Levels
   start p = do
     facing p
@@ -293,6 +295,7 @@ module _ (c : Probe) where
       chosen ← asked n (round m)
       elim chosen [ Nothing ↦ answered (m, n) [] | Chosen x ↦ walk left (suc n) (step m x) ]
 
+  -- the normal and the triangle vectors, laid into the box sign by sign
   unfoldable pub found : Levels → Triangle × ℕ → Found
   found v e = record { normal = lay s (levelled v (normal (e .0))); triangle = laid s (e .0); apex = q; steps = e .1 }
 

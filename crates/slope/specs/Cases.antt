@@ -6,6 +6,7 @@ use Prim.Native.Nat.{ℕ, zero, suc, _*_, _<_}
 use native.Mathlib.Nat as NatL
 use native.Mathlib.Omega.{arith}
 use lib.Dec.{T, leb, leb→le, nleb→lt}
+use mir.Facts.{and-yes}
 use lib.IntN.{ℤ, pos, negsuc, natAbs, _-ℤ_, _*ℤ_}
 use lib.Signed.{_≤ℤ_, leZ, leZ-yes, ltZ, ltZ-yes}
 use Rattle.integers.specs.Order.{parts}
@@ -22,7 +23,6 @@ use Rattle.rules.specs.Solids.{between, permittedWedge, filledWedge, box, inBox
 use Rattle.rules.specs.Asked.{after, _>>=_}
 use Rattle.rules.specs.Walk.{ensure, sign, signs, seen, asked, powersFrom, powers, Axis, axis0, axis2, normal, allLevel, keep, only, remaining, takesPart, levelled, determinant, inside, anyInside, firstFree, choice, lookAt, fallsAt, facing, isLevel, axes, start, falling, round as roundOf, walk, rounds, found, end}
 use Rattle.rules.specs.Pick.{isInside, placing, judging, pick, answer, pickOf}
-use Rattle.laws.specs.Tests.{first-of, second-of}
 use Rattle.laws.specs.Parts.{part, part-scale, part-origin, vector-eq}
 use Rattle.laws.specs.Ranges.{Between}
 use Rattle.laws.specs.Boxes.{in-cube}
@@ -100,10 +100,10 @@ allBelow (suc n) f = f n && allBelow n f
 each-below : (n : ℕ) (f : ℕ → Bool) → T (allBelow n f) → (k : ℕ) → k < n → T (f k)
 unfolding allBelow
 each-below zero f h k l = absurd (omega arith)
-each-below (suc n) f h k l = go (leb n k) refl (each-below n f (second-of (f n) (allBelow n f) h) k)
+each-below (suc n) f h k l = go (leb n k) refl (each-below n f (and-yes (f n) (allBelow n f) h .1) k)
   where
     go : (b : Bool) → leb n k ≡ b → (k < n → T (f k)) → T (f k)
-    go true e r = let same : n ≡ k = omega (arith, leb→le n k (rw e tt)) in subst (λ (j : ℕ). T (f j)) same (first-of (f n) (allBelow n f) h)
+    go true e r = let same : n ≡ k = omega (arith, leb→le n k (rw e tt)) in subst (λ (j : ℕ). T (f j)) same (and-yes (f n) (allBelow n f) h .0)
     go false e r = r (nleb→lt n k (rw e tt))
 
 same-bool : (a b : Bool) → T (Bool·beq a b) → a ≡ b

@@ -4,6 +4,7 @@ use mathlib.Core.Bool.{false, false≢true}
 use Prim.Native.Nat.{ℕ, _+_, _*_, _-_, _≤_}
 use native.Mathlib.Omega.{arith}
 use lib.Dec.{T}
+use mir.Facts.{yes-and}
 use lib.ListN.{length}
 use lib.IntN.{ℤ, pos, natAbs}
 use lib.Signed.{_≤ℤ_, leZ}
@@ -18,7 +19,6 @@ use Rattle.rules.specs.declared.Pick.the-variants.{Accepted, Refused}
 use Rattle.rules.specs.Vectors.{dot, size}
 use Rattle.rules.specs.Solids.{between}
 use Rattle.rules.specs.Walk.{Axis, axis0, axis1, axis2, first, second, way, levels, keep, only, remaining}
-use Rattle.laws.specs.Tests.{both}
 use Rattle.laws.specs.Parts.{part, part-of, parts-by, dot-difference}
 use Rattle.laws.specs.Triples.{All, all-first, all-second}
 use Rattle.laws.specs.Levels.{above-zero, isZero, levelsOf}
@@ -40,7 +40,7 @@ unfolding between
 from-1 reach t =
     let h = between-yes (pos 3) reach (pos 256) t in
     let low : pos 1 ≤ℤ reach = omega (arith, parts, h .0) in
-    both (leZ (pos 1) reach) (leZ reach (pos 256)) (low .le) (h .1 .le)
+    yes-and (leZ (pos 1) reach) (leZ reach (pos 256)) (low .le) (h .1 .le)
 
 to-permitted : (i : Inputs) → Permitted i → Demands.Permitted i
 to-permitted i p = record { permittedReach = from-1 (i .reach) (p .permittedReach); permittedFrame = p .permittedFrame; permittedSolid = p .permittedSolid }

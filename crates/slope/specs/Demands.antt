@@ -45,8 +45,8 @@ abbrev pub apexOf : Inputs → Vector
 apexOf i = i .start ⊕ signsOf i
 
 -- what the walk is about
-abbrev pub probeOf : Inputs → Probe
-probeOf i = probe (look (i .solid) (i .bytes)) (i .start) (i .frame) (i .reach)
+abbrev pub probeAt : Inputs → Probe
+probeAt i = probe (look (i .solid) (i .bytes)) (i .start) (i .frame) (i .reach)
 
 -- K, the number of powers
 abbrev pub powersOf : Inputs → ℕ
@@ -101,7 +101,7 @@ pub record AcceptedWith (n : Vector) (i : Inputs) (a : AcceptedPick) : Type 0 wh
 -- refused with 8, at the voxel that was to be looked at next: a power times minus a unit vector, a unit vector (an opposite) or a way of the triangle reached, from the apex; it lies outside the box
 pub record RefusedOutside (i : Inputs) (r : RefusedPick) : Type 0 where
   pub isEight : r .number ≡ 8
-  pub next : NextLook (probeOf i) (stopOf r)
+  pub next : NextLook (probeAt i) (stopOf r)
   pub outside : T (not (inBox (box (i .solid)) (r .place)))
 
 -- one of the two, nothing else

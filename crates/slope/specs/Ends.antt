@@ -6,6 +6,7 @@ use mathlib.Core.Bool.{Bool, true, false, not}
 use mathlib.Core.List.{[], _∷_}
 use native.Mathlib.Omega.{arith}
 use lib.Dec.{T}
+use mir.Facts.{yes-and}
 use lib.IntN.{ℤ, pos, _+ℤ_, _-ℤ_, _*ℤ_}
 use lib.Signed.{_≤ℤ_}
 use Rattle.integers.specs.Reify.{byring, sides}
@@ -17,7 +18,6 @@ use Rattle.rules.specs.declared.Pair.{Pair}
 use Rattle.rules.specs.declared.Pair.the-variants.{P01, P02, P10, P12, P20, P21}
 use Rattle.rules.specs.Vectors.{scale, dot}
 use Rattle.rules.specs.Walk.{Axis, axis0, axis1, axis2, vectorOf, from, to, first, second, level, takesPart, levelled, normal}
-use Rattle.laws.specs.Tests.{both}
 use Rattle.laws.specs.Parts.{dot-difference, scale-one}
 use Rattle.laws.specs.Triples.{all-of, crosses, combined, equal-products}
 use Rattle.laws.specs.Flat.{Lies, raised, isOne, weight, raised-dot, raised-same, raised-way, level-dot, levelled-raised, weighted-products}
@@ -65,7 +65,7 @@ module _ (N : Vector) (v : Levels) (lies : Lies v N) (m : Triangle) (even : Even
       go (inl e) = rw e (omega (arith, parts))
       go (inr p) =
           let x = p .0 in
-          rw (← p .1, ← p .2) (not-higher x (both (not (level v (from x))) (not (level v (to x))) (subst remains (sym (p .1)) h) (subst remains (sym (p .2)) j)))
+          rw (← p .1, ← p .2) (not-higher x (yes-and (not (level v (from x))) (not (level v (to x))) (subst remains (sym (p .1)) h) (subst remains (sym (p .2)) j)))
 
   -- a is the height of a remaining axis k
   module _ (k : Axis) (r : remains k) where

@@ -30,10 +30,10 @@ use Rattle.laws.specs.Next.{LevelsAnswered}
 use Rattle.laws.specs.Axes.{FellAlong, AxisOf, AxesOf, levels-answered, AxisRule, axes-says}
 use Rattle.laws.specs.Powers.{powers-reach, up-to-reaches, looks-add-up}
 use Rattle.laws.specs.Walks.{walk-says}
-use Rattle.laws.specs.Boxes.{look-told}
+use Rattle.laws.specs.Boxes.{look-as}
 use Rattle.laws.specs.PickRule.{PickRule, pick-by-rule}
-use Rattle.laws.specs.Picks.{permitted-reach}
-use Rattle.slope.specs.Demands.{Inputs, signsOf, probeOf, powersOf, remainingOf, OnSlope}
+use Rattle.range.specs.Ranges.{between-naturals}
+use Rattle.slope.specs.Demands.{Inputs, signsOf, probeAt, powersOf, remainingOf, OnSlope}
 use Rattle.slope.specs.Falls.{Near, fell-is}
 use Rattle.slope.specs.Ideal.{ideal, Upright, heights, Even, ideal-even}
 use Rattle.slope.specs.Ends.{at-least-1, multiple, is-normal}
@@ -71,7 +71,7 @@ module _ (n : Vector) (t : ℤ) (i : Inputs) (o : OnSlope n t i) where
   s = signsOf i
 
   abbrev c : Probe
-  c = probeOf i
+  c = probeAt i
 
   abbrev R : ℕ
   R = natAbs (i .reach)
@@ -130,13 +130,13 @@ module _ (n : Vector) (t : ℤ) (i : Inputs) (o : OnSlope n t i) where
       omega (arith, parts, fact (search linear) sum, remaining-count v, remains-most (v .x) (N .x) (high axis0) (upward axis0), remains-most (v .y) (N .y) (high axis1) (upward axis1), remains-most (v .z) (N .z) (high axis2) (upward axis2))
 
   fits : w ≤ R
-  fits = omega (arith, parts, o .direction .withinReach, permitted-reach (i .reach) (o .permitted .permittedReach) .2)
+  fits = omega (arith, parts, o .direction .withinReach, between-naturals 1 256 (i .reach) (o .permitted .permittedReach) .2)
 
   below : (v : Vector) → lookOf v ≡ Filled → dot n v <ℤ t
-  below v e = let f = look-told (i .solid) (i .bytes) v true e in ltZ-yes (rw (sym (o .filledBelow v (f .0)) ∙ f .1) tt)
+  below v e = let f = look-as (i .solid) (i .bytes) v true e in ltZ-yes (rw (sym (o .filledBelow v (f .0)) ∙ f .1) tt)
 
   above : (v : Vector) → lookOf v ≡ Empty → t ≤ℤ dot n v
-  above v e = let f = look-told (i .solid) (i .bytes) v false e in ltZ-no (rw (sym (o .filledBelow v (f .0)) ∙ f .1) tt)
+  above v e = let f = look-as (i .solid) (i .bytes) v false e in ltZ-no (rw (sym (o .filledBelow v (f .0)) ∙ f .1) tt)
 
   near : Near c n t R
   near = record {

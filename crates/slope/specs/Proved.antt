@@ -23,7 +23,7 @@ use Rattle.laws.specs.Says.{Few}
 use Rattle.laws.specs.Powers.{three-most}
 use Rattle.laws.specs.Boxes.{outside-box}
 use Rattle.laws.specs.Answers.{laid-of, foundOf, AnswerSays, answer-says, laid-products, laid-generated}
-use Rattle.slope.specs.Demands.{Inputs, signsOf, probeOf, powersOf, pickAt, remainingOf, OnSlope, Demanded, Same, Demand3}
+use Rattle.slope.specs.Demands.{Inputs, signsOf, probeAt, powersOf, pickAt, remainingOf, OnSlope, Demanded, Same, Demand3}
 use Rattle.slope.specs.Ideal.{ideal, ideal-steps}
 use Rattle.slope.specs.Picks.{some, few, ideally, fewest, end-even, end-normal, pick-says}
 use Rattle.slope.specs.Rounds.{Edge}
@@ -35,10 +35,10 @@ asked-few r w h k l = let e : w + 1 - r ≡ suc (w - r) = omega (arith, l) in rw
 
 module _ (n : Vector) (t : ℤ) (i : Inputs) (o : OnSlope n t i) where
   abbrev whole : Found
-  whole = found (probeOf i) (levelsOf n) (ideally n t i o)
+  whole = found (probeAt i) (levelsOf n) (ideally n t i o)
 
   abbrev Said : Pick → Type 0
-  Said = AnswerSays (Few (fewest n t i o) (λ f. f ≡ whole)) (λ e l. Edge (probeOf i) e)
+  Said = AnswerSays (Few (fewest n t i o) (λ f. f ≡ whole)) (λ e l. Edge (probeAt i) e)
 
   said : Said (pickAt i)
   unfolding pickOf

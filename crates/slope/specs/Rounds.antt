@@ -17,10 +17,10 @@ use Rattle.rules.specs.declared.Choice.the-variants.{Nothing, Chosen}
 use Rattle.rules.specs.Vectors.{lay}
 use Rattle.rules.specs.Walk.{Stop, stop, pairs, way, step, keep, only, choice, takesPart, Probe}
 use Rattle.laws.specs.Tests.{Each}
-use Rattle.laws.specs.Only.{only-holds, only-in}
+use Rattle.laws.specs.Only.{only-holds}
 use Rattle.laws.specs.Flat.{Flat, Lies, raised, raised-way}
 use Rattle.laws.specs.Looks.{FellOf, RoundOf}
-use Rattle.laws.specs.Next.{LevelsAnswered, Reached, sideways, NextLook, next-look}
+use Rattle.laws.specs.Next.{LevelsAnswered, Reached, sideways, turn-of, NextLook, next-look}
 use Rattle.laws.specs.Walks.{WalkRule}
 use Rattle.slope.specs.Falls.{Near, fell-is}
 use Rattle.slope.specs.Ideal.{downs, idealRound, ideal, Upright, heights, Down, step-upright, step-lower, no-step, round-down, ideal-ends, ideal-goes-on}
@@ -61,7 +61,7 @@ module _ {c : Probe} {n : Vector} {t : ℤ} {R : ℕ} (near : Near c n t R) (v :
 
   pub slope-walk : (final : Triangle × ℕ) → WalkRule c ps (Kept final) (λ e. e ≡ final) (Edge c)
   slope-walk final = record {
-    outside = λ left r k m p h o. record { isEight = refl; next = next-look c (way m (o .pair)) (sideways v asked m (h .reached) (o .pair) (only-in (takesPart v) (o .pair) pairs (o .isPair)) refl) (o .stopped) };
+    outside = λ left r k m p h o. record { isEight = refl; next = next-look c (way m (o .pair)) (sideways v asked m (h .reached) (o .pair) (turn-of c o) refl) (o .stopped) };
     ends = λ left r k m h w. sym (ideal-ends N v r k m (round-ideal m Nothing (h .upright .flat) w)) ∙ h .same;
     stops = stops;
     steps = steps;

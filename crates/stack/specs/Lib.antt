@@ -1,3 +1,4 @@
+-- A stack's sides, its bytes and the place of a voxel.
 pub mod Sides
 pub mod Bytes
 pub mod Voxels

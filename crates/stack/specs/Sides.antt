@@ -1,4 +1,4 @@
--- A stack's sides, each from 1 to 256. What `permittedStack` judges is taken apart here and put together again, and nowhere else.
+-- A stack's sides, each from 1 to 256. What `permittedStack` judges is taken apart here and put together again.
 use mathlib.Core.Path.{_≡_, sym, ap, _∙_}
 use mathlib.Core.Bool.{Bool, true, _&&_, and-assoc}
 use mathlib.Core.List.{List}

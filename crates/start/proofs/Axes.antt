@@ -10,7 +10,7 @@ use Rattle.rules.specs.declared.Levels.{Levels}
 use Rattle.rules.specs.declared.Refused.{Refused}
 use Rattle.rules.specs.Vectors.{_⊕_, minus, lay, unit0, unit1, unit2}
 use Rattle.rules.specs.Walk.{levels, allLevel, Probe, falls, isLevel, axes}
-use Rattle.laws.specs.Tally.{Gives, then-yes, then-no, asked-yes, asked-no, ensured, not-ensured, at-once}
+use Rattle.laws.specs.Tally.{Gives, mostLooks, then-yes, then-no, asked-yes, asked-no, ensured, not-ensured, at-once}
 use Rattle.falls.specs.declared.Falls.{Falls}
 use Rattle.falls.specs.declared.Falls.the-variants.{Fell, Kept, Stopped}
 use Rattle.laws.specs.Frames.{Signs}
@@ -19,7 +19,7 @@ use Rattle.space.specs.Bounds.{bounded-is, bounded-wider, bounded-opposite, bou
 use Rattle.falls.specs.Falls.{Fallen, fallsTally, fallsLooks}
 use Rattle.falls.specs.Sizes.{signs-bounded}
 use Rattle.walk.specs.Walk.{refusalOf}
-use Rattle.start.specs.Start.{axisRefusal, judging, opposite, Opposed, LevelsJudged, MinusAsked, OppositeAsked, AxisJudged, AxesAsked, axisTally, axisLooks}
+use Rattle.start.specs.Start.{axisRefusal, levelsJudged, opposite, Opposed, LevelsJudged, MinusAsked, OppositeAsked, AxisJudged, AxesAsked, axisTally, axisLooks}
 use Rattle.start.specs.declared.AxisAnswer.{AxisAnswer}
 use Rattle.start.specs.declared.AxisAnswer.the-variants.{Asked as IsAsked, Refused as AxisRefused}
 use Rattle.start.specs.declared.Start.{Start}
@@ -78,11 +78,11 @@ not-all v e = ap not e
 
 module _ {q s : Vector} (v : Levels) {n : ℕ} where
   pub judged-level : {r : Refused} → (v .x && (v .y && v .z)) ≡ true → Opposed q s unit0 n r → LevelsJudged q s v n (IsRefused r)
-  unfolding judging
+  unfolding levelsJudged
   judged-level t l = record { gives = rw (l .is) (then-no _ (not-ensured (not-all v t))); few = omega (arith, ap looksIn (l .is)) }
 
   pub judged-begun : (v .x && (v .y && v .z)) ≡ false → LevelsJudged q s v n (Begun v n)
-  unfolding judging
+  unfolding levelsJudged
   judged-begun t = record { gives = then-yes _ (ensured (axisRefusal q s unit0) (not-all v t)) at-once; few = omega arith }
 
 -- ---- the three axes
@@ -90,12 +90,12 @@ module _ (c : Probe) where
   -- an axis, from its question and the judgement
   record AxisAsked (e : Vector) (n : ℕ) (r : AxisAnswer) : Type 0 where
     gives : Gives n (isLevel c e) (axisTally r)
-    few : axisLooks r ≤ n + 1024
+    few : axisLooks r ≤ n + mostLooks 2
 
   axis-asked : {e : Vector} {n : ℕ} {f : Falls} {a r : AxisAnswer} → MinusAsked c e n f → AxisJudged c e f a → a ≡ r → AxisAsked e n r
   axis-asked h g i = record { gives = rw i at (g .gives h); few = omega (arith, h .few, g .few, ap axisLooks i) }
 
-pub axis-few : {c : Probe} {e : Vector} {n : ℕ} {f : Falls} {a : AxisAnswer} {x : Bool} {i : ℕ} → MinusAsked c e n f → AxisJudged c e f a → a ≡ IsAsked x i → i ≤ n + 1024
+pub axis-few : {c : Probe} {e : Vector} {n : ℕ} {f : Falls} {a : AxisAnswer} {x : Bool} {i : ℕ} → MinusAsked c e n f → AxisJudged c e f a → a ≡ IsAsked x i → i ≤ n + mostLooks 2
 axis-few {c} h g i = axis-asked c h g i .few
 
 module _ {c : Probe} {n : ℕ} {f : Falls} {a : AxisAnswer} (hf : MinusAsked c unit0 n f) (ha : AxisJudged c unit0 f a) where
@@ -121,7 +121,7 @@ module _ {c : Probe} {n : ℕ} {f : Falls} {a : AxisAnswer} (hf : MinusAsked c u
           record { gives = then-yes _ (x .gives) (then-yes _ (y .gives) (then-no _ (z .gives))); few = omega (arith, x .few, y .few, z .few) }
 
       pub axes-judged : {z : Bool} {k : ℕ} {r : Start} → d ≡ IsAsked z k → LevelsJudged (c .apex) (c .signs) (levels x y z) k r → AxesAsked c n r
-      unfolding axes judging
+      unfolding axes levelsJudged
       axes-judged ed o =
           let x = axis-asked c hf ha ea in
           let y = axis-asked c hg hb eb in

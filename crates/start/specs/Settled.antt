@@ -4,14 +4,14 @@ use Rattle.rules.specs.declared.Vector.{Vector}
 use Rattle.rules.specs.declared.Levels.{Levels}
 use Rattle.rules.specs.Walk.{Stop, Probe}
 use Rattle.laws.specs.Tally.{Tally, yes, no, gives-settled}
-use Rattle.walk.specs.Settled.{refusalMade}
+use Rattle.rules.specs.Pick.{refusedAnswer}
 use Rattle.start.specs.declared.Start.{Start}
 use Rattle.start.specs.declared.Start.the-variants.{Begun, Refused as IsRefused}
 use Rattle.start.specs.Start.{startTally, Started}
 
 made : Tally Stop Levels → Start
 made (yes v k) = Begun v k
-made (no s k) = IsRefused (refusalMade s k)
+made (no s k) = IsRefused (refusedAnswer s k)
 
 made-again : (r : Start) → made (startTally r) ≡ r
 unfolding made

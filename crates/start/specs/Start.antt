@@ -10,7 +10,7 @@ use Rattle.rules.specs.Vectors.{_⊕_, minus, lay, unit0}
 use Rattle.rules.specs.Asked.{Asked, answered, _>>=_, _>>_}
 use Rattle.rules.specs.Walk.{Stop, stop, ensure, asked, allLevel, Probe, falls, isLevel, axes, start}
 use Rattle.falls.specs.declared.Falls.{Falls}
-use Rattle.laws.specs.Tally.{Tally, yes, Gives}
+use Rattle.laws.specs.Tally.{Tally, yes, Gives, mostLooks}
 use Rattle.falls.specs.Falls.{fallsTally, fallsLooks}
 use Rattle.walk.specs.Walk.{refusalOf, refusalTally}
 use Rattle.start.specs.declared.AxisAnswer.{AxisAnswer}
@@ -42,13 +42,13 @@ pub record Opposed (q s e : Vector) (looks : ℕ) (r : Refused) : Type 0 where
   pub is : r ≡ refusalOf 7 (q ⊕ lay s (minus e)) 0 looks
 
 -- once the axes are asked
-unfoldable pub judging : Vector → Vector → Levels → Asked Stop Levels
-judging q s v = do
+unfoldable pub levelsJudged : Vector → Vector → Levels → Asked Stop Levels
+levelsJudged q s v = do
   ensure (not (allLevel v)) (axisRefusal q s unit0)
   answered v []
 
 pub record LevelsJudged (q s : Vector) (v : Levels) (looks : ℕ) (r : Start) : Type 0 where
-  pub gives : Gives looks (judging q s v) (startTally r)
+  pub gives : Gives looks (levelsJudged q s v) (startTally r)
   pub few : startLooks r ≤ looks
 
 module _ (c : Probe) where
@@ -61,21 +61,21 @@ module _ (c : Probe) where
 
   pub record MinusAsked (e : Vector) (looks : ℕ) (r : Falls) : Type 0 where
     pub gives : Gives looks (falls c (lay (c .signs) (minus e))) (fallsTally r)
-    pub few : fallsLooks r ≤ looks + 512
+    pub few : fallsLooks r ≤ looks + mostLooks 1
 
   pub record OppositeAsked (e : Vector) (looks : ℕ) (r : AxisAnswer) : Type 0 where
     pub gives : Gives looks (opposite e) (axisTally r)
-    pub few : axisLooks r ≤ looks + 512
+    pub few : axisLooks r ≤ looks + mostLooks 1
 
   -- once minus the unit vector e was asked, with the answer f
   pub record AxisJudged (e : Vector) (f : Falls) (r : AxisAnswer) : Type 0 where
     pub gives : {looks : ℕ} → MinusAsked e looks f → Gives looks (isLevel c e) (axisTally r)
-    pub few : axisLooks r ≤ fallsLooks f + 512
+    pub few : axisLooks r ≤ fallsLooks f + mostLooks 1
 
   pub record AxesAsked (looks : ℕ) (r : Start) : Type 0 where
     pub gives : Gives looks (axes c) (startTally r)
-    pub few : startLooks r ≤ looks + 3072
+    pub few : startLooks r ≤ looks + mostLooks 6
 
   pub record Started (p : Vector) (r : Start) : Type 0 where
     pub gives : Gives 0 (start c p) (startTally r)
-    pub few : startLooks r ≤ 3074
+    pub few : startLooks r ≤ 2 + mostLooks 6

@@ -93,7 +93,10 @@ module _ {c : Probe} {R : ℕ} {level : Levels} {looks : ℕ} {m : Triangle} {st
       let none : allowed R level - steps ≡ 0 = omega arith in
       record { gives = rw i (h .rest (rw none (walk-spent c (taking level pairs) m steps n (rw f at (round-gave e))))); sound = tt }
 
-pub walks-on : {v : Scene} {bytes : List ℕ} {level : Levels} {looks : ℕ} {m next : Triangle} {steps n : ℕ} {r : Round} {b : Best} {x : Pair} {k limit : ℕ} → Ready v bytes → limit ≡ allowed (v .reach) level → Walking (probeOf v bytes) (v .reach) level looks m steps n → RoundAsked (probeOf v bytes) m level n r → r ≡ IsAsked b k → b .choice ≡ Chosen x → (steps ≡ limit → ⊥) → next ≡ step m x → Walking (probeOf v bytes) (v .reach) level looks next (steps + 1) k
+pub walks-on : {v : Scene} {bytes : List ℕ} {level : Levels} {looks : ℕ} {m next : Triangle} {steps n : ℕ} {r : Round} {b : Best} {x : Pair} {k limit : ℕ}
+    → Ready v bytes → limit ≡ allowed (v .reach) level
+    → Walking (probeOf v bytes) (v .reach) level looks m steps n → RoundAsked (probeOf v bytes) m level n r
+    → r ≡ IsAsked b k → b .choice ≡ Chosen x → (steps ≡ limit → ⊥) → next ≡ step m x → Walking (probeOf v bytes) (v .reach) level looks next (steps + 1) k
 walks-on {v} {bytes} {level} {looks} {m} {next} {steps} {n} {r} {b} {x} {k} {limit} ready l h g e f z i =
     let left : allowed (v .reach) level - steps ≡ suc (allowed (v .reach) level - suc steps) = omega (arith, h .low) in
     let gave = rw f at (round-gave h g e) in

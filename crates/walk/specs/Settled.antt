@@ -3,19 +3,16 @@ use mathlib.Core.Path.{_≡_, refl}
 use Prim.Native.Nat.{ℕ}
 use Rattle.rules.specs.declared.Levels.{Levels}
 use Rattle.rules.specs.declared.Triangle.{Triangle}
-use Rattle.rules.specs.declared.Refused.{Refused}
 use Rattle.rules.specs.Walk.{Stop, Probe}
+use Rattle.rules.specs.Pick.{refusedAnswer}
 use Rattle.laws.specs.Tally.{Tally, yes, no, gives-settled}
 use Rattle.walk.specs.declared.Walked.{Walked}
 use Rattle.walk.specs.declared.Walked.the-variants.{Ended, Refused as IsRefused}
-use Rattle.walk.specs.Walk.{refusalOf, walkTally, Walks}
-
-abbrev pub refusalMade : Stop → ℕ → Refused
-refusalMade s looks = refusalOf (s .number) (s .place) (s .steps) looks
+use Rattle.walk.specs.Walk.{walkTally, Walks}
 
 made : Tally Stop (Triangle × ℕ) → Walked
 made (yes e k) = Ended (e .0) (e .1) k
-made (no s k) = IsRefused (refusalMade s k)
+made (no s k) = IsRefused (refusedAnswer s k)
 
 made-again : (r : Walked) → made (walkTally r) ≡ r
 unfolding made

@@ -6,8 +6,9 @@ use Rattle.rules.specs.declared.Levels.{Levels}
 use Rattle.rules.specs.declared.Triangle.{Triangle}
 use Rattle.rules.specs.declared.Refused.{Refused}
 use Rattle.rules.specs.Asked.{Asked}
-use Rattle.rules.specs.Walk.{Stop, stop, pairs, remaining, Probe, walk, rounds}
-use Rattle.laws.specs.Tally.{Tally, yes, no, Gives}
+use Rattle.rules.specs.Walk.{Stop, pairs, remaining, Probe, walk, rounds}
+use Rattle.laws.specs.Answers.{stopOf}
+use Rattle.laws.specs.Tally.{Tally, yes, no, Gives, mostLooks}
 use Rattle.round.specs.Round.{Sound, taking}
 use Rattle.walk.specs.declared.Walked.{Walked}
 use Rattle.walk.specs.declared.Walked.the-variants.{Ended, Refused as IsRefused}
@@ -17,7 +18,7 @@ refusalOf number place steps looks = record { number = number; place = place; st
 
 -- a refusal, with the looks so far
 abbrev pub refusalTally : {A : Type 0} → Refused → Tally Stop A
-refusalTally r = no (stop (r .number) (r .place) (r .steps)) (r .looks)
+refusalTally r = no (stopOf r) (r .looks)
 
 abbrev pub walkTally : Walked → Tally Stop (Triangle × ℕ)
 walkTally (Ended m n k) = yes (m, n) k
@@ -26,6 +27,10 @@ walkTally (IsRefused r) = refusalTally r
 abbrev pub SoundEnd : Walked → Type 0
 SoundEnd (Ended m n k) = Sound m
 SoundEnd (IsRefused r) = Unit {0}
+
+-- six pairs in each of at most 257 rounds
+abbrev pub walkQuestions : ℕ
+walkQuestions = 1542
 
 -- the steps allowed: the reach less the number of remaining axes, none if that is below zero
 abbrev pub allowed : ℕ → Levels → ℕ
@@ -45,5 +50,5 @@ module _ (c : Probe) (R : ℕ) (level : Levels) where
     pub sound : Sound m
     pub low : steps ≤ allowed R level
     pub high : R ≤ 256
-    pub few : n ≤ looks + 3072 * steps
+    pub few : n ≤ looks + mostLooks (6 * steps)
     pub rest : {r : Tally Stop (Triangle × ℕ)} → Gives n (walkFrom (allowed R level - steps) steps m) r → Gives looks (rounds c R level) r

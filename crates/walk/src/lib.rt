@@ -4,7 +4,7 @@ ghost use lib.ListN.{length};
 ghost use Rattle.rules.specs.Walk.{units, remaining};
 ghost use Rattle.laws.specs.Tally.{Countable};
 ghost use Rattle.falls.specs.Scene.{probeOf, Ready};
-ghost use Rattle.walk.specs.Walk.{refusalOf, allowed, Walks};
+ghost use Rattle.walk.specs.Walk.{refusalOf, walkQuestions, allowed, Walks};
 use falls::Scene;
 use round::Round;
 use rules::Choice;
@@ -58,7 +58,7 @@ fn steps_allowed(reach: u32, level: Levels) -> u32
 
 // Begin with the unit vectors and zero steps.
 pub fn walk_on(scene: Scene, bytes: &[u8], level: Levels, looks: u32) -> Walked
-    requires { ⌜ Ready scene (now bytes) × Countable 1542 looks ⌝ }
+    requires { ⌜ Ready scene (now bytes) × Countable walkQuestions looks ⌝ }
     ensures { λ r. ⌜ Walks (probeOf scene (now (bytes .entry))) (scene .reach) level looks r ⌝ }
 {
     let q = scene.apex;

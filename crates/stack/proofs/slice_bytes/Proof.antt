@@ -1,3 +1,4 @@
+-- `stack::slice_bytes` meets its contract: a row's bytes, once for each row.
 use borrow.Author.Needs.{needs}
 use Rattle.stack.proofs.Sizes.{slice-fits, slice-bytes}
 use Rattle.stack.proofs.slice_bytes.Statement.{statement}
