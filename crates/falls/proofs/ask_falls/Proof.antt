@@ -15,15 +15,20 @@ Inv-loop bytes looks solid q reach way₀ power₀ n₀ way power n = Falling (l
 abbrev μ-loop : tie.MeasureT-loop
 μ-loop bytes looks solid q reach way₀ power₀ n₀ way power n = 512 - power
 
+apex-and-way-fit : tie.Need-add-requires Inv-loop μ-loop
+apex-and-way-fit c κs = (apex-fits (c .before .before .before .pre .0), way-fits (c .loop .inv))
+
+way-fits-twice : tie.Need-add-requires-2 Inv-loop μ-loop
+way-fits-twice c κs = let h = way-fits (c .before .before .before .before .before .loop .inv) in (h, h)
+
 pub ask-falls-spec : {M : Type 1} → statement M
 ask-falls-spec =
     tie.close
     (tie.spec
     Inv-loop
     μ-loop
-    (λ c. search falls-begins)
-    (λ c κs. (apex-fits (c .before .before .before .pre .0), way-fits (c .loop .inv)))
+    (λ c. search falls-begins) apex-and-way-fit
     (λ c κs. search needs) (λ c. search needs) (λ c. search needs) (λ c. omega arith) (λ c. search needs)
     (λ c. omega arith) (λ c. omega arith)
-    (λ c κs. let h = way-fits (c .before .before .before .before .before .loop .inv) in (h, h))
+    way-fits-twice
     (λ c. omega arith) (λ c. search looked) (λ c. search looked) (λ c. search looked) (λ c. search looked))

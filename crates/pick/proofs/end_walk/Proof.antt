@@ -22,7 +22,6 @@ pub end-walk-spec : {M : Type 1} → statement M
 end-walk-spec =
     tie.close
     (tie.spec
-    (λ c κs. search needs)
-    (λ c κs. whole-fits (c .before .before .before .pre .0) (c .normal-of .ensures))
+    (λ c κs. search needs) (λ c κs. search whole-fits)
     size-requires lay-requires lay-triangle-requires
     (λ c κs. search needs) (λ c. search answering) (λ c. search answering))

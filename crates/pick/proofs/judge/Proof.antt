@@ -8,27 +8,37 @@ use Rattle.pick.proofs.Answers.{judged-reach, judged-frame, judged-soli
 use Rattle.pick.proofs.judge.Statement.{statement}
 use Rattle.pick.proofs.judge.Tie as tie
 
-judge-places-requires : tie.Need-judge-places-requires
-judge-places-requires c κs =
+frame-fits : tie.Need-cast-judge-places
+frame-fits c =
+    let d = c .before .before in
+    range-fits (range _ _ _ (sym (d .before .is-between2 .ensures) ∙ d .if2 .taken)) (lit≤ tt)
+
+reach-fits : tie.Need-cast-judge-places-2
+reach-fits c =
+    let d = c .before .before .before .before in
+    range-fits (range _ _ _ (sym (d .before .is-between .ensures) ∙ d .if1 .taken)) (lit≤ tt)
+
+permitted-and-reach-small : tie.Need-judge-places-requires
+permitted-and-reach-small c κs =
     let d = c .before .before .before .before in
     let reach = range _ _ _ (sym (d .before .is-between .ensures) ∙ d .if1 .taken) in
     (record { is = sym (c .before .is-permitted .ensures) ∙ c .if3 .taken }, omega (arith, reach .at-most))
 
-returns-4 : tie.Need-returns-4
-returns-4 c =
+reach-refused : tie.Need-returns-4
+reach-refused c =
     let reach = c .before in
     let start = reach .before .before .before in
     judged-read (start .fits .frame) (start .fits .reach) (judged-reach (reach .before .is-between .ensures) (reach .if1 .left) (c .refusal3 .ensures))
 
-returns-3 : tie.Need-returns-3
-returns-3 c =
+frame-refused : tie.Need-returns-3
+frame-refused c =
     let frame = c .before in
     let reach = frame .before .before in
     let start = reach .before .before .before in
     judged-read (start .fits .frame) (start .fits .reach) (judged-frame (reach .before .is-between .ensures) (frame .before .is-between2 .ensures) (reach .if1 .taken) (frame .if2 .left) (c .refusal2 .ensures))
 
-returns-2 : tie.Need-returns-2
-returns-2 c =
+solid-refused : tie.Need-returns-2
+solid-refused c =
     let solid = c .before in
     let frame = solid .before .before in
     let reach = frame .before .before in
@@ -36,8 +46,8 @@ returns-2 c =
     judged-read (start .fits .frame) (start .fits .reach)
     (judged-solid (reach .before .is-between .ensures) (frame .before .is-between2 .ensures) (solid .before .is-permitted .ensures) (reach .if1 .taken) (frame .if2 .taken) (solid .if3 .left) (c .refusal .ensures))
 
-returns : tie.Need-returns
-returns c =
+places-judged : tie.Need-returns
+places-judged c =
     let solid = c .before in
     let frame = solid .before .before in
     let reach = frame .before .before in
@@ -50,7 +60,6 @@ judge-spec =
     tie.close
     (tie.spec
     (λ c κs. search needs) (λ c κs. search needs) (λ c κs. search needs)
-    (λ c. let d = c .before .before in range-fits (range _ _ _ (sym (d .before .is-between2 .ensures) ∙ d .if2 .taken)) (lit≤ tt))
-    (λ c. let d = c .before .before .before .before in range-fits (range _ _ _ (sym (d .before .is-between .ensures) ∙ d .if1 .taken)) (lit≤ tt))
-    judge-places-requires
-    (λ c κs. search needs) (λ c κs. search needs) (λ c κs. search needs) returns returns-2 returns-3 returns-4)
+    frame-fits reach-fits permitted-and-reach-small
+    (λ c κs. search needs) (λ c κs. search needs) (λ c κs. search needs)
+    places-judged solid-refused frame-refused reach-refused)

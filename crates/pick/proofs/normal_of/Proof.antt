@@ -4,6 +4,18 @@ use Rattle.pick.proofs.Ends.{normal-is, two-fit, three-fit}
 use Rattle.pick.proofs.normal_of.Statement.{statement}
 use Rattle.pick.proofs.normal_of.Tie as tie
 
+products-fit : tie.Need-add-requires
+products-fit c κs =
+    let s = c .before .before .before .before .before .before in
+    two-fit (s .args .m) (c .before .before .cross .ensures) (c .before .cross2 .ensures) (c .cross3 .ensures) (s .pre)
+
+sum-and-product-fit : tie.Need-add-requires-2
+sum-and-product-fit c κs =
+    let d = c .before in
+    let s = d .before .before .before .before .before .before in
+    three-fit (s .args .m) (d .before .before .cross .ensures) (d .before .cross2 .ensures) (d .cross3 .ensures)
+    (s .pre) (c .add .ensures)
+
 returns : tie.Need-returns
 returns c =
     let d = c .before .before in
@@ -15,6 +27,4 @@ normal-of-spec =
     tie.close
     (tie.spec
     (λ c κs. search needs) (λ c κs. search needs) (λ c κs. search needs)
-    (λ c κs. let s = c .before .before .before .before .before .before in two-fit (s .args .m) (c .before .before .cross .ensures) (c .before .cross2 .ensures) (c .cross3 .ensures) (s .pre))
-    (λ c κs. let d = c .before in let s = d .before .before .before .before .before .before in three-fit (s .args .m) (d .before .before .cross .ensures) (d .before .cross2 .ensures) (d .cross3 .ensures) (s .pre) (c .add .ensures))
-    returns)
+    products-fit sum-and-product-fit returns)

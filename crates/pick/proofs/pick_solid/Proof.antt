@@ -4,8 +4,8 @@ use Rattle.pick.proofs.Answers.{granted, picking, picked-end}
 use Rattle.pick.proofs.pick_solid.Statement.{statement}
 use Rattle.pick.proofs.pick_solid.Tie as tie
 
-returns-4 : tie.Need-returns-4
-returns-4 c =
+walked-to-the-end : tie.Need-returns-4
+walked-to-the-end c =
     let ended = c .before .before in
     let walked = ended .before .before in
     let begun = walked .before .before in
@@ -21,7 +21,7 @@ pick-solid-spec =
     (tie.spec
     (λ c κs. search needs) (λ c. search needs) (λ c. search needs) (λ c κs. search granted)
     (λ c. search needs) (λ c. search needs)
-    (λ c κs. (search granted, search granted))
+    (λ c κs. search granted)
     (λ c. search needs) (λ c. search needs)
-    (λ c κs. (search granted, search granted))
-    (λ c. search picking) (λ c. search picking) (λ c. search picking) returns-4)
+    (λ c κs. search granted)
+    (λ c. search picking) (λ c. search picking) (λ c. search picking) walked-to-the-end)

@@ -4,9 +4,13 @@ use Rattle.pick.proofs.Answers.{picked-read}
 use Rattle.pick.proofs.pick_stack.Statement.{statement}
 use Rattle.pick.proofs.pick_stack.Tie as tie
 
+as-its-solid : tie.Need-returns
+as-its-solid c =
+    let s = c .before .before in
+    record { is = picked-read (s .fits .frame) (s .fits .reach) (c .pick-solid .ensures) .is }
+
 pub pick-stack-spec : {M : Type 1} → statement M
 pick-stack-spec =
     tie.close
     (tie.spec
-    (λ c κs. search needs)
-    (λ c. let s = c .before .before in record { is = picked-read (s .fits .frame) (s .fits .reach) (c .pick-solid .ensures) .is }))
+    (λ c κs. search needs) as-its-solid)

@@ -4,9 +4,14 @@ use Rattle.pick.proofs.Answers.{picked-read}
 use Rattle.pick.proofs.pick_wedge.Statement.{statement}
 use Rattle.pick.proofs.pick_wedge.Tie as tie
 
+as-its-solid : tie.Need-returns
+as-its-solid c =
+    let s = c .before .before in
+    record { is = picked-read (s .fits .frame) (s .fits .reach) (c .pick-solid .ensures) .is }
+
 pub pick-wedge-spec : {M : Type 1} → statement M
 pick-wedge-spec =
     tie.close
     (tie.spec
     (λ c. search needs) (λ c κs. search needs)
-    (λ c. let s = c .before .before in record { is = picked-read (s .fits .frame) (s .fits .reach) (c .pick-solid .ensures) .is }))
+    as-its-solid)

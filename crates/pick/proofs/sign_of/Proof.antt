@@ -7,5 +7,4 @@ pub sign-of-spec : {M : Type 1} → statement M
 sign-of-spec =
     tie.close
     (tie.spec
-    (λ c. sign-zero (c .if1 .taken))
-    (λ c. sign-more (c .before .args .bit) (c .if1 .left)))
+    (λ c. search sign-zero) (λ c. search sign-more))

@@ -5,8 +5,11 @@ use Rattle.round.proofs.Rounds.{prefers}
 use Rattle.round.proofs.prefer.Statement.{statement}
 use Rattle.round.proofs.prefer.Tie as tie
 
-is-nearer-requires : tie.Need-is-nearer-requires
-is-nearer-requires c κs =
+first-and-way-fit : tie.Need-add-requires
+first-and-way-fit c κs = let s = c .before in row-fits (s .pre .0) (s .args .y) (s .pre .2)
+
+rows-bounded : tie.Need-is-nearer-requires
+rows-bounded c κs =
     let a = c .before .before in
     let s = a .before .before in
     (s .pre .0, best-bounded (s .pre .0) (c .enum-told2 .given .1) (s .pre .1), row-bounded (s .pre .0) (s .args .y) (s .pre .2) (a .add .ensures))
@@ -15,6 +18,6 @@ pub prefer-spec : {M : Type 1} → statement M
 prefer-spec =
     tie.close
     (tie.spec
-    (λ c κs. let s = c .before in row-fits (s .pre .0) (s .args .y) (s .pre .2))
-    (λ c. search needs) (λ c. search needs) is-nearer-requires (λ c. search prefers) (λ c. search prefers)
+    first-and-way-fit
+    (λ c. search needs) (λ c. search needs) rows-bounded (λ c. search prefers) (λ c. search prefers)
     (λ c. search prefers))

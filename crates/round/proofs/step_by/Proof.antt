@@ -7,6 +7,11 @@ use Rattle.round.proofs.Pairs.{step-fits}
 use Rattle.round.proofs.step_by.Statement.{statement}
 use Rattle.round.proofs.step_by.Tie as tie
 
+vectors-fit : tie.Need-subtract-requires
+vectors-fit c κs =
+    let s = c .before .before in
+    step-fits (s .pre) (s .args .x) (c .before .first-of .ensures) (c .second-of .ensures)
+
 returns : tie.Need-returns
 returns c =
     let d = c .before in
@@ -18,5 +23,5 @@ step-by-spec =
     tie.close
     (tie.spec
     (λ c κs. search needs) (λ c κs. search needs)
-    (λ c κs. let s = c .before .before in step-fits (s .pre) (s .args .x) (c .before .first-of .ensures) (c .second-of .ensures))
+    vectors-fit
     (λ c κs. search needs) returns)

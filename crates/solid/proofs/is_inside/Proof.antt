@@ -4,4 +4,4 @@ use Rattle.solid.proofs.is_inside.Statement.{statement}
 use Rattle.solid.proofs.is_inside.Tie as tie
 
 pub is-inside-spec : {M : Type 1} → statement M
-is-inside-spec = tie.close (tie.spec (λ c κs. search needs) (λ c κs. search needs) (λ c. rw (c .before .box-of .ensures) at (c .is-in-box .ensures)))
+is-inside-spec = tie.close (tie.spec (λ c κs. search needs) (λ c κs. search needs) (λ c. cc))

@@ -20,6 +20,25 @@ expanded : (a b c e : Vector) → dot e e *ℤ dot (cross a b) c -ℤ dot c c *�
 unfolding sphere det
 expanded a b c e = λ i. dot e e *ℤ dot (cross a b) c -ℤ dot c c *ℤ dot (cross a b) e +ℤ dot b b *ℤ turned a c e i -ℤ dot a a *ℤ turned b c e i
 
+a-and-b-fit : tie.Need-cross-requires
+a-and-b-fit c κs = (bounded (search measured depth 30 fits 5000) tt, bounded (search measured depth 30 fits 5000) tt)
+
+c-and-e-fit : tie.Need-cross-requires-2
+c-and-e-fit c κs = (bounded (search measured depth 30 fits 5000) tt, bounded (search measured depth 30 fits 5000) tt)
+
+-- what a term asks of the row that it squares, and of the other three
+e-squared-fits : tie.Need-term-requires
+e-squared-fits c κs = (bounded (search measured depth 30 fits 5000) tt, bounded (search measured depth 30 fits 5000) tt, bounded (search measured depth 30 fits 5000) tt)
+
+c-squared-fits : tie.Need-term-requires-2
+c-squared-fits c κs = (bounded (search measured depth 30 fits 5000) tt, bounded (search measured depth 30 fits 5000) tt, bounded (search measured depth 30 fits 5000) tt)
+
+b-squared-fits : tie.Need-term-requires-3
+b-squared-fits c κs = (bounded (search measured depth 30 fits 5000) tt, bounded (search measured depth 30 fits 5000) tt, bounded (search measured depth 30 fits 5000) tt)
+
+a-squared-fits : tie.Need-term-requires-4
+a-squared-fits c κs = (bounded (search measured depth 30 fits 5000) tt, bounded (search measured depth 30 fits 5000) tt, bounded (search measured depth 30 fits 5000) tt)
+
 returns : tie.Need-returns
 returns c = value (search measured depth 30 fits 5000) tt ∙ expanded _ _ _ _
 
@@ -27,11 +46,6 @@ pub sphere-spec : {M : Type 1} → statement M
 sphere-spec =
     tie.close
     (tie.spec
-    (λ c κs. (bounded (search measured depth 30 fits 5000) tt, bounded (search measured depth 30 fits 5000) tt))
-    (λ c κs. (bounded (search measured depth 30 fits 5000) tt, bounded (search measured depth 30 fits 5000) tt))
-    (λ c κs. (bounded (search measured depth 30 fits 5000) tt, bounded (search measured depth 30 fits 5000) tt, bounded (search measured depth 30 fits 5000) tt))
-    (λ c κs. (bounded (search measured depth 30 fits 5000) tt, bounded (search measured depth 30 fits 5000) tt, bounded (search measured depth 30 fits 5000) tt))
-    (λ c κs. (bounded (search measured depth 30 fits 5000) tt, bounded (search measured depth 30 fits 5000) tt, bounded (search measured depth 30 fits 5000) tt))
-    (λ c κs. (bounded (search measured depth 30 fits 5000) tt, bounded (search measured depth 30 fits 5000) tt, bounded (search measured depth 30 fits 5000) tt))
+    a-and-b-fit c-and-e-fit e-squared-fits c-squared-fits b-squared-fits a-squared-fits
     (λ c. fits (search measured depth 30 fits 5000) tt) (λ c. fits (search measured depth 30 fits 5000) tt)
     (λ c. fits (search measured depth 30 fits 5000) tt) returns)

@@ -22,8 +22,8 @@ module _ {k : Stack} {bytes : List ℕ} {p : Vector} {width height x y z : ℕ} 
   unfolding filledStack
   same e = rw (w-is, h-is, x-is, y-is, z-is) at e
 
-is-voxel-requires : tie.Need-is-voxel-requires
-is-voxel-requires c κs =
+voxel-is-held : tie.Need-is-voxel-requires
+voxel-is-held c κs =
     let h = c .before .before .before .before .before .before .before .before .before .before .before .pre in
     let s = h .sized .of in
     held h (side-kept (s .wide)) (side-kept (s .high)) (value (search machine depth 30 fits 5000) tt) (value (search machine depth 30 fits 5000) tt) (value (search machine depth 30 fits 5000) tt)
@@ -42,4 +42,4 @@ is-filled-spec =
     (λ c. fits-unsigned (search machine depth 30 fits 5000) tt (search needs))
     (λ c. fits-unsigned (search machine depth 30 fits 5000) tt (search needs))
     (λ c. fits-unsigned (search machine depth 30 fits 5000) tt (search needs))
-    is-voxel-requires returns)
+    voxel-is-held returns)

@@ -19,6 +19,18 @@ module _ {width height : ℕ} {bytes : List ℕ} {x y z row : ℕ} (h : VoxelHel
   row-held : z * height + y < length bytes
   row-held = let p = at-held in let m = mul-le-mul-left (z * height + y) (r .some) in omega arith
 
+slice-fits : tie.Need-mul-at
+slice-fits c = omega (arith, row-held (c .before .before .pre) (c .row-bytes .ensures))
+
+row-fits : tie.Need-add-at
+row-fits c = omega (arith, row-held (c .before .before .pre) (c .row-bytes .ensures))
+
+row-start-fits : tie.Need-mul-at-2
+row-start-fits c = omega (arith, at-held (c .before .before .pre) (c .row-bytes .ensures))
+
+place-fits : tie.Need-add-at-2
+place-fits c = omega (arith, at-held (c .before .before .pre) (c .row-bytes .ensures))
+
 returns : tie.Need-returns
 unfolding voxel
 returns c = rw (c .before .row-bytes .ensures .is) refl
@@ -28,9 +40,6 @@ is-voxel-spec =
     tie.close
     (tie.spec
     (λ c κs. search needs)
-    (λ c. omega (arith, row-held (c .before .before .pre) (c .row-bytes .ensures)))
-    (λ c. omega (arith, row-held (c .before .before .pre) (c .row-bytes .ensures)))
-    (λ c. omega (arith, at-held (c .before .before .pre) (c .row-bytes .ensures)))
-    (λ c. omega (arith, at-held (c .before .before .pre) (c .row-bytes .ensures)))
+    slice-fits row-fits row-start-fits place-fits
     (λ c. search at-held)
     (λ c. search needs) (λ c. search needs) (λ c. search needs) returns)

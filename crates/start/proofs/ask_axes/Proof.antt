@@ -6,36 +6,39 @@ use Rattle.start.proofs.Axes.{axis-few, in-turn}
 use Rattle.start.proofs.ask_axes.Statement.{statement}
 use Rattle.start.proofs.ask_axes.Tie as tie
 
-ask-minus-requires-2 : tie.Need-ask-minus-requires-2
-ask-minus-requires-2 c κs =
+opposite-e0-countable : tie.Need-judge-axis-requires
+opposite-e0-countable c κs = (c .before .before .pre .0, search needs, omega (arith, c .ask-minus .ensures .few))
+
+minus-e1-countable : tie.Need-ask-minus-requires-2
+minus-e1-countable c κs =
     let a = c .before .before .before in
     let s = a .before .before .before in
     (s .pre .0, search needs, omega (arith, s .pre .1, axis-few (a .before .ask-minus .ensures) (a .judge-axis .ensures) (c .before .a2 .given .1)))
 
-judge-axis-requires-2 : tie.Need-judge-axis-requires-2
-judge-axis-requires-2 c κs =
+opposite-e1-countable : tie.Need-judge-axis-requires-2
+opposite-e1-countable c κs =
     let a = c .before .before .before .before in
     let s = a .before .before .before in
     (s .pre .0, search needs, omega (arith, s .pre .1, axis-few (a .before .ask-minus .ensures) (a .judge-axis .ensures) (c .before .before .a2 .given .1), c .ask-minus2 .ensures .few))
 
-ask-minus-requires-3 : tie.Need-ask-minus-requires-3
-ask-minus-requires-3 c κs =
+minus-e2-countable : tie.Need-ask-minus-requires-3
+minus-e2-countable c κs =
     let b = c .before .before .before in
     let d = b .before .before .before in
     let a = d .before .before in
     let s = a .before .before .before in
     (s .pre .0, search needs, omega (arith, s .pre .1, axis-few (a .before .ask-minus .ensures) (a .judge-axis .ensures) (d .a2 .given .1), axis-few (b .before .ask-minus2 .ensures) (b .judge-axis2 .ensures) (c .before .b2 .given .1)))
 
-judge-axis-requires-3 : tie.Need-judge-axis-requires-3
-judge-axis-requires-3 c κs =
+opposite-e2-countable : tie.Need-judge-axis-requires-3
+opposite-e2-countable c κs =
     let b = c .before .before .before .before in
     let d = b .before .before .before in
     let a = d .before .before in
     let s = a .before .before .before in
     (s .pre .0, search needs, omega (arith, s .pre .1, axis-few (a .before .ask-minus .ensures) (a .judge-axis .ensures) (d .a2 .given .1), axis-few (b .before .ask-minus2 .ensures) (b .judge-axis2 .ensures) (c .before .before .b2 .given .1), c .ask-minus3 .ensures .few))
 
-judge-levels-requires : tie.Need-judge-levels-requires
-judge-levels-requires c κs =
+apex-and-signs-fit : tie.Need-judge-levels-requires
+apex-and-signs-fit c κs =
     let s = c .before .before .before .before .before .before .before .before .before .before .before .before .before .before .before .before in
     (apex-fits (s .pre .0), s .pre .0 .signed)
 
@@ -43,9 +46,8 @@ pub ask-axes-spec : {M : Type 1} → statement M
 ask-axes-spec =
     tie.close
     (tie.spec
-    (λ c κs. search needs)
-    (λ c κs. (c .before .before .pre .0, search needs, omega (arith, c .ask-minus .ensures .few)))
-    (λ c. search needs) (λ c. search needs) ask-minus-requires-2 judge-axis-requires-2
-    (λ c. search needs) (λ c. search needs) ask-minus-requires-3 judge-axis-requires-3
-    (λ c. search needs) (λ c. search needs) judge-levels-requires (λ c. search in-turn) (λ c. search in-turn)
+    (λ c κs. search needs) opposite-e0-countable
+    (λ c. search needs) (λ c. search needs) minus-e1-countable opposite-e1-countable
+    (λ c. search needs) (λ c. search needs) minus-e2-countable opposite-e2-countable
+    (λ c. search needs) (λ c. search needs) apex-and-signs-fit (λ c. search in-turn) (λ c. search in-turn)
     (λ c. search in-turn) (λ c. search in-turn))

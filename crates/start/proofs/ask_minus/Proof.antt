@@ -4,6 +4,9 @@ use Rattle.start.proofs.Axes.{fitting, minus-asked}
 use Rattle.start.proofs.ask_minus.Statement.{statement}
 use Rattle.start.proofs.ask_minus.Tie as tie
 
+signs-and-unit-fit : tie.Need-lay-minus-requires
+signs-and-unit-fit c κs = let s = c .before .before in (s .pre .0 .signed, s .pre .1)
+
 ask-falls-requires : tie.Need-ask-falls-requires
 ask-falls-requires c κs =
     let s = c .before .before .before in
@@ -14,5 +17,5 @@ pub ask-minus-spec : {M : Type 1} → statement M
 ask-minus-spec =
     tie.close
     (tie.spec
-    (λ c κs. let s = c .before .before in (s .pre .0 .signed, s .pre .1))
+    signs-and-unit-fit
     ask-falls-requires (λ c. search minus-asked))

@@ -12,12 +12,16 @@ lay-requires c κs = let s = c .before .before in let g = s .pre .0 .signed in s
 ask-falls-requires : tie.Need-ask-falls-requires
 ask-falls-requires c κs = let s = c .before .before .before in let g = s .pre .0 .signed in (s .pre .0, search fitting, omega arith)
 
+apex-signs-and-unit-fit : tie.Need-refuse-axis-requires
+apex-signs-and-unit-fit c κs =
+    let s = c .before .before .before .before .before .before .before in
+    (apex-fits (s .pre .0), s .pre .0 .signed, s .pre .1)
+
 pub ask-opposite-spec : {M : Type 1} → statement M
 ask-opposite-spec =
     tie.close
     (tie.spec
     lay-requires ask-falls-requires
-    (λ c. search needs)
-    (λ c κs. let s = c .before .before .before .before .before .before .before in (apex-fits (s .pre .0), s .pre .0 .signed, s .pre .1))
+    (λ c. search needs) apex-signs-and-unit-fit
     (λ c. search needs) (λ c. search needs) (λ c κs. search needs) (λ c. search opposing) (λ c. search opposing)
     (λ c. search opposing))

@@ -8,6 +8,4 @@ pub judge-levels-spec : {M : Type 1} → statement M
 judge-levels-spec =
     tie.close
     (tie.spec
-    (λ c κs. search needs)
-    (λ c. judged-level (c .before .before .before .before .args .level) (c .before .if1 .taken) (c .refuse-axis .ensures))
-    (λ c. judged-begun (c .before .before .before .args .level) (c .if1 .left)))
+    (λ c κs. search needs) (λ c. search judged-level) (λ c. search judged-begun))

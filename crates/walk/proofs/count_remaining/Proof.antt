@@ -34,11 +34,15 @@ module _ (v : Levels) where
   all-three : boolByte (not (v .x)) + boolByte (not (v .y)) + boolByte (not (v .z)) ≤ 3
   all-three = omega (arith, x-and-y, at-most-one (not (v .z)))
 
+two-fit : tie.Need-add-result
+two-fit c = omega (arith, x-and-y (c .before .before .before .args .level))
+
+three-fit : tie.Need-add-result-2
+three-fit c = omega (arith, all-three (c .before .before .before .args .level))
+
 pub count-remaining-spec : {M : Type 1} → statement M
 count-remaining-spec =
     tie.close
     (tie.spec
     (λ c. search needs) (λ c. search needs) (λ c. search needs)
-    (λ c. omega (arith, x-and-y (c .before .before .before .args .level)))
-    (λ c. omega (arith, all-three (c .before .before .before .args .level)))
-    (λ c. counted (c .before .before .before .args .level)))
+    two-fit three-fit (λ c. search counted))
