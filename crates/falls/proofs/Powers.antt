@@ -12,8 +12,7 @@ use Rattle.rules.specs.declared.Look.{Look}
 use Rattle.rules.specs.declared.Look.the-variants.{Filled, Empty, Outside}
 use Rattle.integers.specs.Laws.{*ℤ-distr, *ℤ-idl}
 use Rattle.rules.specs.Vectors.{vector, _⊕_, scale}
-use Rattle.laws.specs.Ranges.{Bounded}
-use Rattle.space.specs.Bounds.{bounded-is, bounded-wider, bounded-sum}
+use Rattle.laws.specs.Bounds.{Bounded, bounded-is, bounded-wider, bounded-sum}
 use Rattle.rules.specs.Walk.{powersFrom, powers, fallsAt}
 use Rattle.laws.specs.Tally.{Tally, yes, no, Gives, then-yes, then-no, at-once, filled-there, empty-there, outside-there}
 use Rattle.falls.specs.Falls.{Fallen, Falling}

@@ -7,7 +7,7 @@ use Rattle.rules.specs.declared.Vector.{Vector}
 use Rattle.rules.specs.declared.Look.{Look}
 use Rattle.rules.specs.Vectors.{scale}
 use Rattle.rules.specs.Walk.{powersFrom, powers, fallsAt, Probe, falls}
-use Rattle.laws.specs.Ranges.{Bounded}
+use Rattle.laws.specs.Bounds.{Bounded}
 use Rattle.laws.specs.Tally.{Tally, yes, no, Gives, mostLooks}
 use Rattle.falls.specs.declared.Falls.{Falls}
 use Rattle.falls.specs.declared.Falls.the-variants.{Fell, Kept, Stopped}

@@ -7,8 +7,7 @@ use lib.IntN.{ℤ, pos, negsuc}
 use Rattle.integers.specs.Sizes.{Within, within-is, within-literal}
 use Rattle.rules.specs.declared.Vector.{Vector}
 use Rattle.laws.specs.Frames.{IsSign, Signs}
-use Rattle.laws.specs.Ranges.{Bounded}
-use Rattle.space.specs.Bounds.{bounded-wider}
+use Rattle.laws.specs.Bounds.{Bounded, bounded-wider}
 use Rattle.solid.specs.Facts.{inside-bounded}
 use Rattle.falls.specs.declared.Scene.{Scene}
 use Rattle.falls.specs.Scene.{Ready}

@@ -1,5 +1,5 @@
 // Whether a vector falls.
-ghost use Rattle.laws.specs.Ranges.{Bounded};
+ghost use Rattle.laws.specs.Bounds.{Bounded};
 ghost use Rattle.laws.specs.Tally.{Countable};
 ghost use Rattle.falls.specs.Scene.{probeOf, Ready};
 ghost use Rattle.falls.specs.Falls.{Fallen};

@@ -31,7 +31,8 @@ use Rattle.laws.specs.Frames.{Signs}
 use Rattle.laws.specs.Says.{says-answered}
 use Rattle.laws.specs.Looks.{As, round-says}
 use Rattle.laws.specs.Chosen.{chosen-in}
-use Rattle.laws.specs.Ranges.{Between, InCube, Bounded, powers-begin, step-within}
+use Rattle.laws.specs.Bounds.{Bounded}
+use Rattle.laws.specs.Ranges.{Between, InCube, powers-begin, step-within}
 
 -- ---- a look and the box
 seen-inside : (i f : Bool) → isInside (seenAs i f) ≡ i

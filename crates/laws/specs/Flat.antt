@@ -75,14 +75,15 @@ raise false z = z
 unfoldable pub raised : Levels → Vector → Vector
 raised v n = vector (raise (v .x) (n .x)) (raise (v .y) (n .y)) (raise (v .z) (n .z))
 
--- 1 of a level axis; 1 of one that remains
+-- 1 of a level axis
 abbrev pub isOne : Bool → ℤ
 isOne true = pos 1
 isOne false = pos 0
 
-abbrev pub weight : Bool → ℤ
-weight true = pos 0
-weight false = pos 1
+-- the normal's product with an axis's vector: 0 with a level one's, 1 with one that remains
+abbrev pub product : Bool → ℤ
+product true = pos 0
+product false = pos 1
 
 -- n has no part along a level axis
 abbrev pub Lies : Levels → Vector → Type 0
@@ -151,15 +152,15 @@ module _ (v : Levels) (m : Triangle) (f : Flat v m) where
     level-dot j e = ap (dot n) (f j e j .own refl) ∙ dot-unit n j ∙ l j e
 
   -- on every solid: 0 with the level vectors and 1 with the others
-  weight-is : (b : Bool) (z p : ℤ) → p ≡ pos 1 → (T b → z ≡ p) → p -ℤ isOne b *ℤ z ≡ weight b
-  weight-is true z p e h = rw (h tt, e)
-  weight-is false z p e h = rw e (byring (z ∷ []) (search sides depth 40 fits 5000) tt)
+  product-is : (b : Bool) (z p : ℤ) → p ≡ pos 1 → (T b → z ≡ p) → p -ℤ isOne b *ℤ z ≡ product b
+  product-is true z p e h = rw (h tt, e)
+  product-is false z p e h = rw e (byring (z ∷ []) (search sides depth 40 fits 5000) tt)
 
-  pub levelled-dot : detOf m ≡ pos 1 → (j : Axis) → dot (levelled v (normal m)) (vectorOf m j) ≡ weight (level v j)
+  pub levelled-dot : detOf m ≡ pos 1 → (j : Axis) → dot (levelled v (normal m)) (vectorOf m j) ≡ product (level v j)
   levelled-dot d j =
       levelled-along v (normal m) (vectorOf m j) (unit j) (part-along j)
       ∙ ap (λ z. dot (normal m) (vectorOf m j) -ℤ z) (over-unit (λ k. isOne (level v k) *ℤ part k (normal m)) j)
-      ∙ weight-is (level v j) (part j (normal m)) (dot (normal m) (vectorOf m j)) (all-of (normal-dot m) j ∙ d) (λ e. sym (dot-unit (normal m) j) ∙ ap (dot (normal m)) (sym (f j e j .own refl)))
+      ∙ product-is (level v j) (part j (normal m)) (dot (normal m) (vectorOf m j)) (all-of (normal-dot m) j ∙ d) (λ e. sym (dot-unit (normal m) j) ∙ ap (dot (normal m)) (sym (f j e j .own refl)))
 
 -- raised and levelled again is n
 back : (b : Bool) (z : ℤ) → (T b → z ≡ pos 0) → unlessLevel b (raise b z) ≡ z
@@ -170,10 +171,10 @@ pub levelled-raised : (v : Levels) (n : Vector) → Lies v n → levelled v (rai
 unfolding levelled raised
 levelled-raised v n l = vector-eq (back (v .x) (n .x) (l axis0)) (back (v .y) (n .y) (l axis1)) (back (v .z) (n .z) (l axis2))
 
--- ---- a vector whose products are a times some weights is a times a vector
+-- ---- a vector whose products are a times others is a times a vector
 spread : (a x y z p q r : ℤ) → a *ℤ x *ℤ p +ℤ a *ℤ y *ℤ q +ℤ a *ℤ z *ℤ r ≡ a *ℤ (x *ℤ p +ℤ y *ℤ q +ℤ z *ℤ r)
 spread a x y z p q r = byring (a ∷ x ∷ y ∷ z ∷ p ∷ q ∷ r ∷ []) (search sides depth 40 fits 5000) tt
 
-pub weighted-products : (n : Vector) (m : Triangle) (a : ℤ) (w : Axis → ℤ) → detOf m ≡ pos 1 → ((k : Axis) → dot n (vectorOf m k) ≡ a *ℤ w k) → n ≡ scale a (combined (crosses m) (w axis0) (w axis1) (w axis2))
+pub scaled-products : (n : Vector) (m : Triangle) (a : ℤ) (w : Axis → ℤ) → detOf m ≡ pos 1 → ((k : Axis) → dot n (vectorOf m k) ≡ a *ℤ w k) → n ≡ scale a (combined (crosses m) (w axis0) (w axis1) (w axis2))
 unfolding scale _⊕_
-weighted-products n m a w d h = sym (scale-one n) ∙ (rw (d, h axis0, h axis1, h axis2) at (expand-crosses m n)) ∙ vector-eq (spread a (w axis0) (w axis1) (w axis2) _ _ _) (spread a (w axis0) (w axis1) (w axis2) _ _ _) (spread a (w axis0) (w axis1) (w axis2) _ _ _)
+scaled-products n m a w d h = sym (scale-one n) ∙ (rw (d, h axis0, h axis1, h axis2) at (expand-crosses m n)) ∙ vector-eq (spread a (w axis0) (w axis1) (w axis2) _ _ _) (spread a (w axis0) (w axis1) (w axis2) _ _ _) (spread a (w axis0) (w axis1) (w axis2) _ _ _)

@@ -16,7 +16,7 @@ use Rattle.laws.specs.Tests.{Each}
 use Rattle.laws.specs.Only.{each-of, each-both, each-map, only-holds}
 use Rattle.laws.specs.Parts.{part, vector-by-parts, part-sum, part-difference, part-scale, part-origin, dot-sum, dot-difference, dot-scale, dot-origin}
 use Rattle.laws.specs.Triples.{combined}
-use Rattle.laws.specs.Flat.{weight}
+use Rattle.laws.specs.Flat.{product}
 
 -- ---- what is stated
 -- v is a whole combination of some vectors
@@ -107,12 +107,12 @@ module _ {A : Type 0} (c : A → ℤ) where
         go false = swapped (sum f (only test xs)) (scale (c x) (f x)) (sum f (others xs))
 
     -- the product with n, which is 0 with the vectors of the test and 1 with the others
-    dot-total : (n : Vector) → ((x : A) → dot n (f x) ≡ weight (test x)) → (xs : List A) → dot n (sum f xs) ≡ total (others xs)
+    dot-total : (n : Vector) → ((x : A) → dot n (f x) ≡ product (test x)) → (xs : List A) → dot n (sum f xs) ≡ total (others xs)
     unfolding sum total only keep
     dot-total n h [] = dot-origin n
     dot-total n h (x ∷ xs) = dot-sum n (scale (c x) (f x)) (sum f xs) ∙ ap₂ _+ℤ_ (dot-scale n (f x) (c x) ∙ ap (λ z. c x *ℤ z) (h x)) (dot-total n h xs) ∙ go (test x)
       where
-        go : (b : Bool) → c x *ℤ weight b +ℤ total (others xs) ≡ total (keep (not b) x (others xs))
+        go : (b : Bool) → c x *ℤ product b +ℤ total (others xs) ≡ total (keep (not b) x (others xs))
         go true = byring (c x ∷ total (others xs) ∷ []) (search sides depth 40 fits 5000) tt
         go false = byring (c x ∷ total (others xs) ∷ []) (search sides depth 40 fits 5000) tt
 
@@ -132,7 +132,7 @@ module _ (m : Triangle) (c : Axis → ℤ) where
 
 -- ---- a face: n has product 0 with the level vectors and 1 with the others
 abbrev pub Products : Levels → Vector → Triangle → Type 0
-Products v n m = (k : Axis) → dot n (vectorOf m k) ≡ weight (level v k)
+Products v n m = (k : Axis) → dot n (vectorOf m k) ≡ product (level v k)
 
 module _ (v : Levels) (n : Vector) (m : Triangle) (p : Products v n m) where
   all-three : (c : Axis → ℤ) → combined m (c axis0) (c axis1) (c axis2) ≡ sum c (vectorOf m) allAxes
@@ -147,11 +147,11 @@ module _ (v : Levels) (n : Vector) (m : Triangle) (p : Products v n m) where
       (combines-sides m c (remaining v) (sym (dot-total c (vectorOf m) (level v) n p allAxes) ∙ ap (dot n) (sym (all-three c)) ∙ h)))
 
   -- and the generators lie in it
-  is-level : (b : Bool) → T b → weight b ≡ pos 0
+  is-level : (b : Bool) → T b → product b ≡ pos 0
   is-level true t = refl
   is-level false t = absurd t
 
-  is-not : (b : Bool) → T (not b) → weight b ≡ pos 1
+  is-not : (b : Bool) → T (not b) → product b ≡ pos 1
   is-not true t = absurd t
   is-not false t = refl
 

@@ -7,6 +7,7 @@ pub mod Levels
 pub mod Flat
 pub mod Generators
 pub mod Tame
+pub mod Bounds
 pub mod Sphere
 pub mod Choosing
 pub mod Tally

@@ -25,6 +25,7 @@ use Rattle.rules.specs.Pick.{isInside}
 use Rattle.laws.specs.Tests.{In}
 use Rattle.laws.specs.Parts.{Parts}
 use Rattle.laws.specs.Triples.{All, all-with}
+use Rattle.laws.specs.Bounds.{Bounded}
 use Rattle.laws.specs.Frames.{IsSign, Signs, sign-size}
 use Rattle.laws.specs.Says.{says-answered}
 use Rattle.laws.specs.Looks.{along, FellAt, Fell, FellOf, round-says}
@@ -36,12 +37,6 @@ pub record Between (M : ℕ) (z : ℤ) : Type 0 where
 
 abbrev pub InCube : ℕ → Vector → Type 0
 InCube M = Parts (Between M)
-
--- each part at most M in size
-pub record Bounded (M : ℕ) (a : Vector) : Type 0 where
-  pub in-x : Within M (a .x)
-  pub in-y : Within M (a .y)
-  pub in-z : Within M (a .z)
 
 -- ---- what was looked at was inside
 pub not-outside : (look : Vector → Look) (p : Vector) → T (isInside (look p)) → look p ≡ Outside → ⊥

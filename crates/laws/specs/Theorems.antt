@@ -33,7 +33,7 @@ use Rattle.laws.specs.Parts.{NonNegative, Positive, part, parts-by}
 use Rattle.laws.specs.Triples.{All, all-by, detOf, step-det}
 use Rattle.laws.specs.Levels as Levels
 use Rattle.laws.specs.Levels.{isZero, levelsOf, levels-of, levels-eq}
-use Rattle.laws.specs.Flat.{weight}
+use Rattle.laws.specs.Flat.{product}
 use Rattle.laws.specs.Generators.{Combines, generators, two-sides}
 use Rattle.laws.specs.Tame.{units-tame}
 use Rattle.laws.specs.Sphere as Sphere
@@ -42,7 +42,7 @@ use Rattle.laws.specs.Choosing.{best}
 use Rattle.laws.specs.Frames.{Signs, signs-are, lay-part-high}
 use Rattle.laws.specs.Powers as Powers
 use Rattle.laws.specs.Powers.{UpTo, few-looks}
-use Rattle.laws.specs.Ranges.{Bounded}
+use Rattle.laws.specs.Bounds.{Bounded}
 use Rattle.laws.specs.Boxes as Boxes
 use Rattle.laws.specs.Boxes.{outside-box, probeOn}
 use Rattle.laws.specs.Next.{LevelsAnswered, Reached, NextLook}
@@ -183,7 +183,7 @@ module _ (solid : Solid) (bytes : List ℕ) (p : Vector) (frame reach : ℤ) whe
     pub accepted-determinant : detOf (laid s (a .triangle)) ≡ pos 1
     accepted-determinant = accepting-determinant accepting signed
 
-    pub accepted-products : (k : Axis) → dot (a .normal) (vectorOf (a .triangle) k) ≡ weight (level (levelsOf (a .normal)) k)
+    pub accepted-products : (k : Axis) → dot (a .normal) (vectorOf (a .triangle) k) ≡ product (level (levelsOf (a .normal)) k)
     accepted-products = accepting-products accepting signed
 
     -- the level vectors and the sides between the other corners generate every whole vector of the plane
@@ -213,7 +213,7 @@ module _ (solid : Solid) (bytes : List ℕ) (p : Vector) (frame reach : ℤ) whe
       base-signs = parts-by (λ z. pos 1 ≤ℤ z) (lay s (a .normal)) (λ k. lay-part-high s (a .normal) signed accepted-signs k (none k))
 
       pub base-products : All (λ m. dot (a .normal) m ≡ pos 1) (a .triangle)
-      base-products = all-by (λ k. accepted-products k ∙ ap weight (levels-of (a .normal) k ∙ none k))
+      base-products = all-by (λ k. accepted-products k ∙ ap product (levels-of (a .normal) k ∙ none k))
 
       pub base-sides : (v : Vector) → dot (a .normal) v ≡ pos 0 → (c1 : ℤ) × (c2 : ℤ) × (v ≡ scale c1 (way (a .triangle) P01) ⊕ scale c2 (way (a .triangle) P02))
       base-sides v h = two-sides (a .triangle) v (subst (λ l. Combines (generators l (a .triangle)) v) unlevel (accepted-generated v h))

@@ -3,7 +3,7 @@ ghost use mathlib.Core.Path.{_≡_};
 ghost use Prim.Native.Nat.{_≤_};
 ghost use Rattle.rules.specs.Walk.{sign, signs, unlessLevel, levelled, normal, laid};
 ghost use Rattle.rules.specs.Pick.{WedgePromise, StackPromise};
-ghost use Rattle.laws.specs.Ranges.{Bounded};
+ghost use Rattle.laws.specs.Bounds.{Bounded};
 ghost use Rattle.solid.specs.Asks.{PermittedSolid};
 ghost use Rattle.laws.specs.Frames.{Signs};
 ghost use Rattle.round.specs.Round.{Sound};

@@ -17,7 +17,7 @@ use Rattle.rules.specs.Asked.{Asked, answered, _>>=_}
 use Rattle.rules.specs.Walk.{pairs, only, takesPart, way, Probe, falling, round}
 use Rattle.laws.specs.Triples.{detOf}
 use Rattle.laws.specs.Choosing.{better, best}
-use Rattle.laws.specs.Ranges.{Bounded}
+use Rattle.laws.specs.Bounds.{Bounded}
 use Rattle.laws.specs.Tally.{Tally, yes, no, tally, Gives, mostLooks}
 use Rattle.round.specs.declared.Best.{Best}
 use Rattle.round.specs.declared.Round.{Round}

@@ -1,7 +1,7 @@
 // One round: the pairs that take part, and the choice.
 ghost use mathlib.Core.Path.{_≡_};
 ghost use Rattle.rules.specs.Walk.{takesPart, triangle, first, second, way, with, step};
-ghost use Rattle.laws.specs.Ranges.{Bounded};
+ghost use Rattle.laws.specs.Bounds.{Bounded};
 ghost use Rattle.laws.specs.Tally.{Countable};
 ghost use Rattle.falls.specs.Scene.{probeOf, Ready};
 ghost use Rattle.round.specs.Round.{Sound, nearer, Weighs, Weighed, Preferred, pairAfter, roundLooks, WayAsked, PairAsked, RoundAsked};

@@ -20,7 +20,7 @@ use Rattle.rules.specs.Vectors.{scale, dot}
 use Rattle.rules.specs.Walk.{Axis, axis0, axis1, axis2, vectorOf, from, to, first, second, level, takesPart, levelled, normal}
 use Rattle.laws.specs.Parts.{dot-difference, scale-one}
 use Rattle.laws.specs.Triples.{all-of, crosses, combined, equal-products}
-use Rattle.laws.specs.Flat.{Lies, raised, isOne, weight, raised-dot, raised-same, raised-way, level-dot, levelled-raised, weighted-products}
+use Rattle.laws.specs.Flat.{Lies, raised, isOne, product, raised-dot, raised-same, raised-way, level-dot, levelled-raised, scaled-products}
 use Rattle.slope.specs.Ideal.{Even}
 
 -- two axes are the same, or a pair's
@@ -38,12 +38,12 @@ joined axis2 axis2 = inl refl
 ordered : (x y : ℤ) → pos 0 ≤ℤ (y -ℤ x) → x ≤ℤ y
 ordered x y h = let a = atom x in let b = atom y in goal (search linear) (omega (arith, fact (search linear) h))
 
--- a height by its weight, and with 1 more along a level axis
-by-weight : (b : Bool) (z a : ℤ) → (T b → z ≡ pos 0) → (T (not b) → z ≡ a) → z ≡ a *ℤ weight b
-by-weight true z a p q = p tt ∙ byring (a ∷ []) (search sides depth 40 fits 5000) tt
-by-weight false z a p q = q tt ∙ byring (a ∷ []) (search sides depth 40 fits 5000) tt
+-- a height by its axis, level or not, and with 1 more along a level axis
+by-level : (b : Bool) (z a : ℤ) → (T b → z ≡ pos 0) → (T (not b) → z ≡ a) → z ≡ a *ℤ product b
+by-level true z a p q = p tt ∙ byring (a ∷ []) (search sides depth 40 fits 5000) tt
+by-level false z a p q = q tt ∙ byring (a ∷ []) (search sides depth 40 fits 5000) tt
 
-one-more : (b : Bool) → pos 1 *ℤ weight b +ℤ isOne b ≡ pos 1
+one-more : (b : Bool) → pos 1 *ℤ product b +ℤ isOne b ≡ pos 1
 one-more true = refl
 one-more false = refl
 
@@ -72,18 +72,18 @@ module _ (N : Vector) (v : Levels) (lies : Lies v N) (m : Triangle) (even : Even
     pub at-least-1 : pos 1 ≤ℤ dot N (vectorOf m k)
     at-least-1 = rw (← raised-same v m (even .upright .flat) N lies k r) (all-of (even .upright .high) k)
 
-    weighted : (l : Axis) → height l ≡ height k *ℤ weight (level v l)
-    weighted l = by-weight (level v l) (height l) (height k) (level-dot v m (even .upright .flat) N lies l) (λ j. let a = at-most k l r j in let b = at-most l k j r in omega (arith, parts))
+    height-is : (l : Axis) → height l ≡ height k *ℤ product (level v l)
+    height-is l = by-level (level v l) (height l) (height k) (level-dot v m (even .upright .flat) N lies l) (λ j. let a = at-most k l r j in let b = at-most l k j r in omega (arith, parts))
 
     -- N is a times a whole vector
-    pub multiple : N ≡ scale (dot N (vectorOf m k)) (combined (crosses m) (weight (v .x)) (weight (v .y)) (weight (v .z)))
-    multiple = weighted-products N m (height k) (λ l. weight (level v l)) (even .upright .unimodular) weighted
+    pub multiple : N ≡ scale (dot N (vectorOf m k)) (combined (crosses m) (product (v .x)) (product (v .y)) (product (v .z)))
+    multiple = scaled-products N m (height k) (λ l. product (level v l)) (even .upright .unimodular) height-is
 
     pub is-normal : dot N (vectorOf m k) ≡ pos 1 → levelled v (normal m) ≡ N
     is-normal one = ap (levelled v) (sym raised-is) ∙ levelled-raised v N lies
       where
         all-one : (l : Axis) → dot (raised v N) (vectorOf m l) ≡ pos 1
-        all-one l = raised-dot v m (even .upright .flat) N lies l ∙ ap (λ z. z +ℤ isOne (level v l)) (weighted l ∙ ap (λ z. z *ℤ weight (level v l)) one) ∙ one-more (level v l)
+        all-one l = raised-dot v m (even .upright .flat) N lies l ∙ ap (λ z. z +ℤ isOne (level v l)) (height-is l ∙ ap (λ z. z *ℤ product (level v l)) one) ∙ one-more (level v l)
 
         raised-is : raised v N ≡ normal m
         raised-is =

@@ -13,7 +13,8 @@ use Rattle.rules.specs.declared.Solid.{Solid}
 use Rattle.rules.specs.declared.Solid.the-variants.{Wedge as IsWedge}
 use Rattle.rules.specs.Solids.{between, permittedWedge}
 use Rattle.range.specs.Ranges.{between-within}
-use Rattle.laws.specs.Ranges.{Between, Bounded}
+use Rattle.laws.specs.Bounds.{Bounded}
+use Rattle.laws.specs.Ranges.{Between}
 use Rattle.laws.specs.Boxes.{look-inside, solid-cube}
 use Rattle.solid.specs.Asks.{PermittedSolid, InBoxOf, WedgeAsks}
 

@@ -1,7 +1,7 @@
 // The two solids behind one look.
 ghost use mathlib.Core.Path.{_≡_};
 ghost use Rattle.rules.specs.Solids.{permittedWedge, permitted, filledWedge, box, inSide, inBox, filled, look};
-ghost use Rattle.laws.specs.Ranges.{Bounded};
+ghost use Rattle.laws.specs.Bounds.{Bounded};
 ghost use Rattle.solid.specs.Asks.{PermittedSolid, InBoxOf, WedgeAsks};
 use rules::Look;
 use rules::Solid;

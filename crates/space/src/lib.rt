@@ -3,7 +3,7 @@ ghost use mathlib.Core.Path.{_≡_};
 ghost use lib.IntN.{_-ℤ_, _*ℤ_};
 ghost use Rattle.integers.specs.Sizes.{Within};
 ghost use Rattle.rules.specs.Vectors.{_⊕_, _⊖_, minus, dot, cross, sphere, lay, size};
-ghost use Rattle.laws.specs.Ranges.{Bounded};
+ghost use Rattle.laws.specs.Bounds.{Bounded};
 use rules::Vector;
 use size::size_of;
 

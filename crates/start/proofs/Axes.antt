@@ -14,8 +14,7 @@ use Rattle.laws.specs.Tally.{Gives, mostLooks, then-yes, then-no, asked-yes, as
 use Rattle.falls.specs.declared.Falls.{Falls}
 use Rattle.falls.specs.declared.Falls.the-variants.{Fell, Kept, Stopped}
 use Rattle.laws.specs.Frames.{Signs}
-use Rattle.laws.specs.Ranges.{Bounded}
-use Rattle.space.specs.Bounds.{bounded-is, bounded-wider, bounded-opposite, bounded-lay}
+use Rattle.laws.specs.Bounds.{Bounded, bounded-is, bounded-wider, bounded-opposite, bounded-lay}
 use Rattle.falls.specs.Falls.{Fallen, fallsTally, fallsLooks}
 use Rattle.falls.specs.Sizes.{signs-bounded}
 use Rattle.walk.specs.Walk.{refusalOf}

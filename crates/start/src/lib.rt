@@ -1,7 +1,7 @@
 // The start: p, q and the axes.
 ghost use mathlib.Core.Path.{_≡_};
 ghost use Rattle.rules.specs.Vectors.{minus, lay};
-ghost use Rattle.laws.specs.Ranges.{Bounded};
+ghost use Rattle.laws.specs.Bounds.{Bounded};
 ghost use Rattle.laws.specs.Frames.{Signs};
 ghost use Rattle.laws.specs.Tally.{Countable};
 ghost use Rattle.falls.specs.Scene.{probeOf, Ready};

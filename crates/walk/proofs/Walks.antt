@@ -17,7 +17,7 @@ use Rattle.rules.specs.Vectors.{det, cross, dot}
 use Rattle.rules.specs.Walk.{Stop, stop, units, pairs, step, Probe, round, walk, rounds}
 use Rattle.laws.specs.Triples.{All, detOf, step-det}
 use Rattle.laws.specs.Boxes.{look-inside, units-within, chosen-within}
-use Rattle.laws.specs.Ranges.{Bounded}
+use Rattle.laws.specs.Bounds.{Bounded}
 use Rattle.laws.specs.Tally.{Tally, yes, no, Gives, then-yes, then-no, asked-yes, asked-no, at-once, refused-at-once, was-answered}
 use Rattle.falls.specs.declared.Scene.{Scene}
 use Rattle.falls.specs.Scene.{probeOf, Ready}

@@ -3,7 +3,7 @@ use mathlib.Core.Path.{sym, _∙_}
 use lib.Dec.{lit≤}
 use borrow.Author.Needs.{needs}
 use Rattle.laws.specs.Frames.{signs-are}
-use Rattle.space.specs.Bounds.{bounded-is, bounded-wider}
+use Rattle.laws.specs.Bounds.{bounded-is, bounded-wider}
 use Rattle.solid.specs.Facts.{inside-bounded}
 use Rattle.falls.specs.Sizes.{signs-bounded}
 use Rattle.pick.proofs.Answers.{answering}
