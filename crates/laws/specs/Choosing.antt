@@ -1,6 +1,6 @@
--- The choice. Strictly inside is a smaller g, so the chosen pair is the first falling pair of least g: one exists whenever a pair falls,
+-- The choice. Strictly inside is a smaller weight, so the chosen pair is the first falling pair of least weight: one exists whenever a pair falls,
 -- and a round that keeps only the best pair so far, replaced where the next is inside its sphere, ends with the same pair.
-use mathlib.Core.Path.{_≡_, refl, ap, subst, _∙_}
+use mathlib.Core.Path.{_≡_, refl, sym, ap, subst, _∙_}
 use mathlib.Core.Logic.{inl, inr}
 use mathlib.Core.Bool.{Bool, true, false, _||_}
 use mathlib.Core.List.{List, [], _∷_}
@@ -9,15 +9,15 @@ use native.Mathlib.Omega.{arith}
 use lib.Dec.{T}
 use lib.IntN.{pos}
 use lib.Signed.{_≤ℤ_, _<ℤ_, ltZ-yes, ltZ-no}
-use Rattle.integers.specs.Order.{parts, linear, atom, goal, fact}
+use Rattle.integers.specs.Order.{parts}
 use Rattle.rules.specs.declared.Triangle.{Triangle}
 use Rattle.rules.specs.declared.Pair.{Pair}
 use Rattle.rules.specs.declared.Choice.{Choice}
 use Rattle.rules.specs.declared.Choice.the-variants.{Nothing, Chosen}
-use Rattle.rules.specs.Walk.{determinant, inside, anyInside, firstFree, choice}
+use Rattle.rules.specs.Walk.{inside, anyInside, firstFree, choice}
 use Rattle.laws.specs.Tests.{is-true, is-false, Each, In}
 use Rattle.laws.specs.Triples.{detOf}
-use Rattle.laws.specs.Sphere.{g, determinant-is}
+use Rattle.laws.specs.Sphere.{weight, inside-by-weight}
 
 -- ---- the choice of one round, pair by pair, as code makes it
 -- the best so far, and a pair that falls too
@@ -47,25 +47,16 @@ pub choice-is : (P : Pair → Type 0) (m : Triangle) (fs : List Pair) → Each P
 unfolding choice
 choice-is P m fs h = first-free-is P m fs fs h
 
--- ---- inside, by g
+-- ---- inside, by the weight
 module _ (m : Triangle) (d : detOf m ≡ pos 1) where
-  inside-less : (x y : Pair) → T (inside m x y) → g m y <ℤ g m x
-  unfolding inside
-  inside-less x y t =
-      let a = atom (g m x) in let b = atom (g m y) in
-      omega (arith, parts, fact (search linear) (rw (determinant-is m x y d) at (ltZ-yes {a = determinant m x y} t)))
+  inside-less : (x y : Pair) → T (inside m x y) → weight m y <ℤ weight m x
+  inside-less x y t = ltZ-yes (subst T (inside-by-weight m d x y) t)
 
-  less-inside : (x y : Pair) → g m y <ℤ g m x → T (inside m x y)
-  unfolding inside
-  less-inside x y h =
-      let k : determinant m x y <ℤ pos 0 = rw (determinant-is m x y d) (let a = atom (g m x) in let b = atom (g m y) in goal (search linear) (omega (arith, parts))) in
-      k .lt
+  less-inside : (x y : Pair) → weight m y <ℤ weight m x → T (inside m x y)
+  less-inside x y h = subst T (sym (inside-by-weight m d x y)) (h .lt)
 
-  not-inside : (x y : Pair) → inside m x y ≡ false → g m x ≤ℤ g m y
-  unfolding inside
-  not-inside x y e =
-      let a = atom (g m x) in let b = atom (g m y) in
-      omega (arith, parts, fact (search linear) (rw (determinant-is m x y d) at (ltZ-no {a = determinant m x y} {b = pos 0} (rw e tt))))
+  not-inside : (x y : Pair) → inside m x y ≡ false → weight m x ≤ℤ weight m y
+  not-inside x y e = ltZ-no (rw (sym (inside-by-weight m d x y) ∙ e) tt)
 
   pub not-inside-itself : (x : Pair) → inside m x x ≡ false
   not-inside-itself x = is-false (inside m x x) (λ t. let h = inside-less x x t in omega (arith, parts))

@@ -1,19 +1,27 @@
--- The determinant of the choice, for a triangle of determinant 1: D(x, y) = 2 (g(y) - g(x)) with g(k, l) = m_l·(m_l - m_k).
+-- The determinant of the choice, for a triangle of determinant 1: D(x, y) = 2 (g(y) - g(x)) with the weight g(k, l) = m_l·(m_l - m_k), so strictly inside is a smaller weight.
 -- One identity in fifteen variables splits D into a part of x and a part of y; both parts are linear in what is known of m0, m1 and m2.
-use mathlib.Core.Path.{_≡_}
+use mathlib.Core.Path.{_≡_, sym, ap, _∙_}
+use mathlib.Core.Logic.{_⊎_, inl, inr}
 use mathlib.Core.List.{[], _∷_}
+use native.Mathlib.Omega.{arith}
 use lib.IntN.{ℤ, pos, _+ℤ_, _-ℤ_, _*ℤ_}
+use lib.Signed.{_≤ℤ_, _<ℤ_, ltZ}
 use Rattle.integers.specs.Reify.{byring, sides, by-eq}
+use Rattle.integers.specs.Order.{parts, linear, atom, goal}
+use Rattle.integers.specs.Sizes.{Within}
 use Rattle.rules.specs.declared.Vector.{Vector}
 use Rattle.rules.specs.declared.Triangle.{Triangle}
 use Rattle.rules.specs.declared.Pair.{Pair}
 use Rattle.rules.specs.Vectors.{_⊕_, _⊖_, dot, cross, det, sphere}
-use Rattle.rules.specs.Walk.{first, second, way, normal, determinant}
+use Rattle.rules.specs.Walk.{first, second, way, normal, determinant, inside}
+use Rattle.laws.specs.Tests.{less, not-less, compared}
 use Rattle.laws.specs.Parts.{of2, dot-sum, dot-difference}
 use Rattle.laws.specs.Triples.{All, all-first, all-second, detOf, of9, crosses, normal-dot}
+use Rattle.laws.specs.Bounds.{Bounded, way-bounded, within-dot}
 
-abbrev pub g : Triangle → Pair → ℤ
-g m x = dot (second m x) (way m x)
+-- m_l·(m_l - m_k)
+abbrev pub weight : Triangle → Pair → ℤ
+weight m x = dot (second m x) (way m x)
 
 -- the squares of m0, m1, m2, spread by the cross products
 spread : Triangle → Vector → ℤ
@@ -52,12 +60,28 @@ twice : (d : ℤ) (a b : Vector) → d *ℤ dot (b ⊖ a) (b ⊖ a) +ℤ (d *ℤ
 unfolding dot _⊖_
 twice d a b = byring (d ∷ of2 a b) (search sides depth 40 fits 5000) tt
 
-power-way : (m : Triangle) (x : Pair) → power m (way m x) ≡ pos 2 *ℤ detOf m *ℤ g m x
+power-way : (m : Triangle) (x : Pair) → power m (way m x) ≡ pos 2 *ℤ detOf m *ℤ weight m x
 unfolding power
 power-way m x = rw (spread-difference m (second m x) (first m x), all-first (spread-at m) x, all-second (spread-at m) x) (twice (detOf m) (first m x) (second m x))
 
-pub determinant-is : (m : Triangle) (x y : Pair) → detOf m ≡ pos 1 → determinant m x y ≡ pos 2 *ℤ (g m y -ℤ g m x)
+pub determinant-is : (m : Triangle) (x y : Pair) → detOf m ≡ pos 1 → determinant m x y ≡ pos 2 *ℤ (weight m y -ℤ weight m x)
 unfolding determinant
 determinant-is m x y d =
     by-eq (pos 1) (rw (over-way m x, over-way m y, power-way m x, power-way m y, d) at (split m (way m x) (way m y)))
-    (byring (sphere (m .m0 ⊖ m .m1) (m .m0 ⊖ m .m2) (m .m0 ⊕ way m x) (m .m0 ⊕ way m y) ∷ g m x ∷ g m y ∷ []) (search sides depth 40 fits 5000) tt)
+    (byring (sphere (m .m0 ⊖ m .m1) (m .m0 ⊖ m .m2) (m .m0 ⊕ way m x) (m .m0 ⊕ way m y) ∷ weight m x ∷ weight m y ∷ []) (search sides depth 40 fits 5000) tt)
+
+-- ---- so strictly inside is a smaller weight
+halved : (a b : ℤ) → ltZ (pos 2 *ℤ (a -ℤ b)) (pos 0) ≡ ltZ a b
+halved a b = go (compared a b)
+  where
+    go : (a <ℤ b) ⊎ (b ≤ℤ a) → ltZ (pos 2 *ℤ (a -ℤ b)) (pos 0) ≡ ltZ a b
+    go (inl h) = less (pos 2 *ℤ (a -ℤ b)) (pos 0) (let x = atom a in let y = atom b in goal (search linear) (omega (arith, parts))) ∙ sym (less a b h)
+    go (inr h) = not-less (pos 2 *ℤ (a -ℤ b)) (pos 0) (let x = atom a in let y = atom b in goal (search linear) (omega (arith, parts))) ∙ sym (not-less a b h)
+
+pub inside-by-weight : (m : Triangle) → detOf m ≡ pos 1 → (x y : Pair) → inside m x y ≡ ltZ (weight m y) (weight m x)
+unfolding inside
+inside-by-weight m d x y = ap (λ (z : ℤ). ltZ z (pos 0)) (determinant-is m x y d) ∙ halved (weight m y) (weight m x)
+
+-- the size of a weight
+pub weight-fits : (m : Triangle) → All (Bounded 1023) m → (x : Pair) → Within 6279174 (weight m x)
+weight-fits m h x = within-dot (all-second h x) (way-bounded h x)

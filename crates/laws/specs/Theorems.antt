@@ -8,7 +8,8 @@ use native.Mathlib.Omega.{arith}
 use lib.Dec.{T}
 use lib.ListN.{length}
 use lib.IntN.{ℤ, pos, natAbs, _-ℤ_, _*ℤ_}
-use lib.Signed.{_≤ℤ_}
+use lib.Signed.{_≤ℤ_, ltZ}
+use Rattle.integers.specs.Sizes.{Within}
 use Rattle.rules.specs.declared.Vector.{Vector}
 use Rattle.rules.specs.declared.Solid.{Solid}
 use Rattle.rules.specs.declared.Solid.the-variants.{Stack as IsStack}
@@ -37,6 +38,7 @@ use Rattle.laws.specs.Flat.{product}
 use Rattle.laws.specs.Generators.{Combines, generators, two-sides}
 use Rattle.laws.specs.Tame.{units-tame}
 use Rattle.laws.specs.Sphere as Sphere
+use Rattle.laws.specs.Sphere.{weight}
 use Rattle.laws.specs.Choosing as Choosing
 use Rattle.laws.specs.Choosing.{best}
 use Rattle.laws.specs.Frames.{Signs, signs-are, lay-part-high}
@@ -68,9 +70,16 @@ units-determinant = units-tame .unimodular
 pub step-determinant : (m : Triangle) (x : Pair) → detOf (step m x) ≡ detOf m
 step-determinant = step-det
 
--- ---- the choice: document 01's determinant is twice a difference, so strictly inside is a smaller m_l·(m_l - m_k)
+-- ---- the choice: document 01's determinant is twice a difference of weights, a pair's weight being m_l·(m_l - m_k), so strictly inside is a smaller weight
 pub determinant-is : (m : Triangle) (x y : Pair) → detOf m ≡ pos 1 → determinant m x y ≡ pos 2 *ℤ (dot (second m y) (way m y) -ℤ dot (second m x) (way m x))
 determinant-is = Sphere.determinant-is
+
+pub inside-by-weight : (m : Triangle) → detOf m ≡ pos 1 → (x y : Pair) → inside m x y ≡ ltZ (weight m y) (weight m x)
+inside-by-weight = Sphere.inside-by-weight
+
+-- and a weight stays far below 2^31, with parts within 1023 (below)
+pub weight-fits : (m : Triangle) → All (Bounded 1023) m → (x : Pair) → Within 6279174 (weight m x)
+weight-fits = Sphere.weight-fits
 
 -- a pair is always chosen when one falls, and no pair is inside its own sphere
 pub choice-exists : (m : Triangle) → detOf m ≡ pos 1 → (falling : List Pair) → choice m falling ≡ Nothing → falling ≡ []

@@ -29,7 +29,7 @@ use Rattle.laws.specs.Tally.{Tally, yes, no, tally, Gives, Countable, then-yes,
 use Rattle.solid.specs.Asks.{PermittedSolid}
 use Rattle.falls.specs.declared.Scene.{Scene}
 use Rattle.falls.specs.Scene.{probeOf, Ready}
-use Rattle.round.specs.Round.{Sound}
+use Rattle.choice.specs.Sound.{Sound}
 use Rattle.walk.specs.Walk.{refusalOf, walkTally, walkQuestions, Walks}
 use Rattle.walk.specs.declared.Walked.{Walked}
 use Rattle.walk.specs.declared.Walked.the-variants.{Ended as WalkEnded, Refused as WalkRefused}

@@ -12,7 +12,7 @@ use Rattle.rules.specs.declared.Triangle.{Triangle}
 use Rattle.rules.specs.Vectors.{_⊕_, cross}
 use Rattle.rules.specs.Walk.{unlessLevel, levelled, normal}
 use Rattle.laws.specs.Bounds.{Bounded, bounded-is, bounded-wider, bounded-sum, bounded-cross}
-use Rattle.round.specs.Round.{Sound}
+use Rattle.choice.specs.Sound.{Sound}
 
 module _ (m : Triangle) {a b c : Vector} (ea : a ≡ cross (m .m0) (m .m1)) (eb : b ≡ cross (m .m1) (m .m2)) (ec : c ≡ cross (m .m2) (m .m0)) where
   pub normal-is : {d e : Vector} → d ≡ a ⊕ b → e ≡ d ⊕ c → e ≡ normal m

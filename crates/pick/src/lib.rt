@@ -6,7 +6,7 @@ ghost use Rattle.rules.specs.Pick.{WedgePromise, StackPromise};
 ghost use Rattle.laws.specs.Bounds.{Bounded};
 ghost use Rattle.solid.specs.Asks.{PermittedSolid};
 ghost use Rattle.laws.specs.Frames.{Signs};
-ghost use Rattle.round.specs.Round.{Sound};
+ghost use Rattle.choice.specs.Sound.{Sound};
 ghost use Rattle.pick.specs.Pick.{EndGives, PlacesJudged, InputsJudged, Picked};
 use falls::Scene;
 use rules::Accepted;

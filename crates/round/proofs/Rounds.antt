@@ -14,43 +14,22 @@ use Rattle.rules.specs.declared.Pair.{Pair}
 use Rattle.rules.specs.declared.Pair.the-variants.{P01, P02, P10, P12, P20, P21}
 use Rattle.rules.specs.declared.Choice.{Choice}
 use Rattle.rules.specs.declared.Choice.the-variants.{Nothing, Chosen}
-use Rattle.rules.specs.Vectors.{_⊕_, lay}
+use Rattle.rules.specs.Vectors.{_⊖_, lay}
 use Rattle.rules.specs.Asked.{Asked, answered, _>>=_}
-use Rattle.rules.specs.Walk.{pairs, only, keep, takesPart, way, determinant, inside, Probe, falls, falling, round}
+use Rattle.rules.specs.Walk.{pairs, only, keep, takesPart, first, second, way, Probe, falls, falling, round}
 use Rattle.laws.specs.Tally.{Tally, yes, no, tally, Gives, mostLooks, Countable, then-yes, inner-yes, inner-no, made-twice, at-once}
 use Rattle.falls.specs.declared.Falls.{Falls}
 use Rattle.falls.specs.declared.Falls.the-variants.{Fell, Kept, Stopped as Stops}
 use Rattle.falls.specs.Falls.{fallsTally, fallsLooks, Fallen}
 use Rattle.laws.specs.Triples.{detOf}
 use Rattle.laws.specs.Choosing.{better, best, best-is-choice}
-use Rattle.round.specs.Round.{Sound, roundTally, roundLooks, bestOf, rowOf, nearer, Weighs, Weighed, Preferred, pairAfter, taking, weighing, rest, WayAsked, PairAsked, RoundAsked}
-use Rattle.round.specs.declared.Best.{Best}
+use Rattle.choice.specs.declared.Best.{Best}
+use Rattle.choice.specs.Best.{bestOf}
+use Rattle.choice.specs.Sound.{Sound}
+use Rattle.choice.specs.Lighter.{Weighs, Preferred, prefers}
+use Rattle.round.specs.Round.{roundTally, roundLooks, Weighed, pairAfter, taking, weighing, rest, WayAsked, PairAsked, RoundAsked}
 use Rattle.round.specs.declared.Round.{Round}
 use Rattle.round.specs.declared.Round.the-variants.{Asked as IsAsked, Stopped}
-
--- ---- the best so far and a pair that falls too: by the sphere through the triangle and the best so far
-row-is : (m : Triangle) (y : Pair) {e w : Vector} → e ≡ m .m0 ⊕ w → w ≡ way m y → e ≡ rowOf m y
-row-is m y i j = i ∙ ap (λ (u : Vector). m .m0 ⊕ u) j
-
-inside-is : (m : Triangle) (x y : Pair) {c e : Vector} {b : Bool} → b ≡ nearer m c e → c ≡ rowOf m x → e ≡ rowOf m y → inside m x y ≡ b
-unfolding inside determinant
-inside-is m x y n i j = sym (n ∙ (λ l. nearer m (i l) (j l)))
-
-module _ {m : Triangle} {k : Best} {y : Pair} {e w : Vector} (i : e ≡ m .m0 ⊕ w) (j : w ≡ way m y) where
-  pub prefers-first : k .choice ≡ Nothing → Preferred m k y (bestOf (Chosen y) e)
-  unfolding better
-  prefers-first c = record { is = rw (c, better); weighed = row-is m y i j }
-
-  module _ {x : Pair} {b : Bool} (c : k .choice ≡ Chosen x) (h : Weighs m (k .choice) (k .row)) (n : b ≡ nearer m (k .row) e) where
-    pub prefers-next : b ≡ true → Preferred m k y (bestOf (Chosen y) e)
-    unfolding better
-    prefers-next t = record { is = rw (c, inside-is m x y n (rw c at h) (row-is m y i j) ∙ t, better); weighed = row-is m y i j }
-
-    pub prefers-before : b ≡ false → Preferred m k y k
-    unfolding better
-    prefers-before t = record { is = rw (c, inside-is m x y n (rw c at h) (row-is m y i j) ∙ t, better); weighed = h }
-
-pub ruleset prefers = (prefers-first, prefers-next, prefers-before)
 
 -- ---- what the pair's answer makes of the round, at the best c so far
 module _ (c : Probe) (m : Triangle) (x : Pair) where
@@ -74,20 +53,20 @@ module _ (c : Probe) (m : Triangle) (x : Pair) where
     rest-is (Stops p k) h = inner-no _ _ h .is
 
 -- ---- a pair that takes part, from what the falls question promised to what one pair more promises
-module _ {c : Probe} {m : Triangle} {x : Pair} {k : Best} {n : ℕ} {f : Falls} {u w : Vector} (h : Fallen c u n f) (i : u ≡ lay (c .signs) w) (j : w ≡ way m x) where
+module _ {c : Probe} {m : Triangle} {x : Pair} {k : Best} {n : ℕ} {f : Falls} {a b u w : Vector} (h : Fallen c u n f) (i : u ≡ lay (c .signs) w) (j : w ≡ b ⊖ a) (p : a ≡ first m x) (q : b ≡ second m x) where
   way-by : {r : Round} → roundTally r ≡ weighed c m x (k .choice) f → roundLooks r ≡ fallsLooks f → Weighed m r → WayAsked c m x k n r
   unfolding question
   way-by {r} v l o = record {
-    is = λ ps. ap (rest c m ps) v ∙ rest-is c m x (k .choice) n ps f (rw (← j, ← i) (h .gives));
+    is = λ ps. ap (rest c m ps) v ∙ rest-is c m x (k .choice) n ps f (rw (← q, ← p, ← j, ← i) (h .gives));
     weighed = o;
     few = omega (arith, h .few, l);
   }
 
   pub way-fell : {t : ℕ} {d : Best} → f ≡ Fell t → Preferred m k x d → WayAsked c m x k n (IsAsked d t)
   unfolding weighed
-  way-fell {t} g v = way-by (ap (λ (c : Choice). yes c t) (v .is) ∙ sym (ap (weighed c m x (k .choice)) g)) (sym (ap fallsLooks g)) (v .weighed)
+  way-fell {t} g v = way-by (ap (λ (c : Choice). yes c t) (v .is) ∙ sym (ap (weighed c m x (k .choice)) g)) (sym (ap fallsLooks g)) (v .weighs)
 
-  pub way-kept : {t : ℕ} → f ≡ Kept t → Weighs m (k .choice) (k .row) → WayAsked c m x k n (IsAsked k t)
+  pub way-kept : {t : ℕ} → f ≡ Kept t → Weighs m k → WayAsked c m x k n (IsAsked k t)
   unfolding weighed
   way-kept g o = way-by (sym (ap (weighed c m x (k .choice)) g)) (sym (ap fallsLooks g)) o
 
@@ -95,7 +74,7 @@ module _ {c : Probe} {m : Triangle} {x : Pair} {k : Best} {n : ℕ} {f : Falls} 
   unfolding weighed
   way-stopped g = way-by (sym (ap (weighed c m x (k .choice)) g)) (sym (ap fallsLooks g)) tt
 
-pub ruleset ways = (way-fell, way-kept, way-stopped)
+pub ruleset ways = (way-fell, way-kept, way-stopped, prefers)
 
 -- ---- any pair: asked if it takes part, else passed over
 module _ {c : Probe} {m : Triangle} {level : Levels} {x : Pair} {before : Round} where
@@ -159,7 +138,7 @@ module _ (c : Probe) (m : Triangle) (level : Levels) (n : ℕ) where
   goes P21 {sofar} {r} h p = record { gives = record { is = none-left c m (roundTally r) ∙ p .is [] ∙ h .rest-gives }; weighed = p .weighed; few = omega (arith, p .few, h .few) }
 
 module _ {c : Probe} {m : Triangle} {level : Levels} {n : ℕ} where
-  pub asking-begins : Sound m → Asking c m level n P01 (IsAsked (bestOf Nothing (m .m0)) n)
+  pub asking-begins : Sound m → Asking c m level n P01 (IsAsked (bestOf Nothing (pos 0)) n)
   unfolding behind left
   asking-begins h = record { rest-gives = best-of-all c m (taking level pairs) n (h .unimodular); weighed = refl; few = omega arith }
 

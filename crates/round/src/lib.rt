@@ -1,10 +1,12 @@
-// One round: the pairs that take part, and the choice.
+// One round: the pairs that take part are asked in their order, and the best of those that fall is kept.
 ghost use mathlib.Core.Path.{_≡_};
-ghost use Rattle.rules.specs.Walk.{takesPart, triangle, first, second, way, with, step};
-ghost use Rattle.laws.specs.Bounds.{Bounded};
+ghost use Rattle.rules.specs.Walk.{takesPart, triangle, with, step};
 ghost use Rattle.laws.specs.Tally.{Countable};
 ghost use Rattle.falls.specs.Scene.{probeOf, Ready};
-ghost use Rattle.round.specs.Round.{Sound, nearer, Weighs, Weighed, Preferred, pairAfter, roundLooks, WayAsked, PairAsked, RoundAsked};
+ghost use Rattle.choice.specs.Sound.{Sound};
+ghost use Rattle.choice.specs.Lighter.{Weighs};
+ghost use Rattle.round.specs.Round.{Weighed, pairAfter, roundLooks, WayAsked, PairAsked, RoundAsked};
+use choice::Best;
 use falls::Falls;
 use falls::Scene;
 use rules::Choice;
@@ -13,12 +15,6 @@ use rules::Pair;
 use rules::Triangle;
 use rules::Vector;
 
-// The best falling pair so far, and its candidate's row of the determinant; of no pair, m_0.
-pub struct Best {
-    pub choice: Choice,
-    pub row: Vector,
-}
-
 // The best so far, or the point outside at which the round stopped; each with the looks so far.
 pub enum Round {
     Asked(Best, u32),
@@ -26,42 +22,6 @@ pub enum Round {
 }
 
 // ---- pairs
-
-// m_k
-fn first_of(m: Triangle, x: Pair) -> Vector
-    ensures { λ r. ⌜ r ≡ first m x ⌝ }
-{
-    match x {
-        Pair::P01 => m.m0,
-        Pair::P02 => m.m0,
-        Pair::P10 => m.m1,
-        Pair::P12 => m.m1,
-        Pair::P20 => m.m2,
-        Pair::P21 => m.m2,
-    }
-}
-
-// m_l
-fn second_of(m: Triangle, x: Pair) -> Vector
-    ensures { λ r. ⌜ r ≡ second m x ⌝ }
-{
-    match x {
-        Pair::P01 => m.m1,
-        Pair::P02 => m.m2,
-        Pair::P10 => m.m0,
-        Pair::P12 => m.m2,
-        Pair::P20 => m.m0,
-        Pair::P21 => m.m1,
-    }
-}
-
-// m_l - m_k
-fn way_of(m: Triangle, x: Pair) -> Vector
-    requires { ⌜ Sound m ⌝ }
-    ensures { λ r. ⌜ r ≡ way m x ⌝ }
-{
-    space::subtract(second_of(m, x), first_of(m, x))
-}
 
 pub fn make_triangle(a: Vector, b: Vector, c: Vector) -> Triangle
     ensures { λ r. ⌜ r ≡ triangle a b c ⌝ }
@@ -95,7 +55,7 @@ pub fn step_by(m: Triangle, x: Pair) -> Triangle
     requires { ⌜ Sound m ⌝ }
     ensures { λ r. ⌜ r ≡ step m x ⌝ }
 {
-    let a = space::subtract(first_of(m, x), second_of(m, x));
+    let a = space::subtract(choice::first_of(m, x), choice::second_of(m, x));
     replace(m, x, a)
 }
 
@@ -116,58 +76,21 @@ fn takes_part(level: Levels, x: Pair) -> bool
     }
 }
 
-// ---- the choice
-
-// Whether the candidate of the row e is strictly inside the sphere through the triangle and the candidate of the row c.
-fn is_nearer(m: Triangle, c: Vector, e: Vector) -> bool
-    requires { ⌜ Sound m × Bounded 3069 c × Bounded 3069 e ⌝ }
-    ensures { λ r. ⌜ r ≡ nearer m c e ⌝ }
-{
-    let m0 = m.m0;
-    let m1 = m.m1;
-    let m2 = m.m2;
-    let a = space::subtract(m0, m1);
-    let b = space::subtract(m0, m2);
-    space::sphere(a, b, c, e) < 0
-}
-
-// The pair y falls too, and w is its way.
-fn prefer(m: Triangle, sofar: Best, y: Pair, w: Vector) -> Best
-    requires { ⌜ Sound m × Weighs m (sofar .choice) (sofar .row) × (w ≡ way m y) ⌝ }
-    ensures { λ r. ⌜ Preferred m sofar y r ⌝ }
-{
-    let m0 = m.m0;
-    let e = space::add(m0, w);
-    let next = Best {
-        choice: Choice::Chosen(y),
-        row: e,
-    };
-    let c = sofar.choice;
-    match c {
-        Choice::Nothing => next,
-        Choice::Chosen(_) => {
-            if is_nearer(m, sofar.row, e) {
-                next
-            } else {
-                sofar
-            }
-        }
-    }
-}
-
 // ---- the round
 
 // A pair that takes part, after those of which `best` is the best.
 fn ask_way(scene: Scene, bytes: &[u8], m: Triangle, x: Pair, best: Best, looks: u32) -> Round
-    requires { ⌜ Ready scene (now bytes) × Sound m × Weighs m (best .choice) (best .row) × Countable 1 looks ⌝ }
+    requires { ⌜ Ready scene (now bytes) × Sound m × Weighs m best × Countable 1 looks ⌝ }
     ensures { λ r. ⌜ WayAsked (probeOf scene (now (bytes .entry))) m x best looks r ⌝ }
 {
     let s = scene.signs;
-    let w = way_of(m, x);
+    let k = choice::first_of(m, x);
+    let l = choice::second_of(m, x);
+    let w = space::subtract(l, k);
     let u = space::lay(s, w);
     let f = falls::ask_falls(scene, bytes, u, looks);
     match f {
-        Falls::Fell(n) => Round::Asked(prefer(m, best, x, w), n),
+        Falls::Fell(n) => Round::Asked(choice::prefer(best, choice::weigh(x, l, w)), n),
         Falls::Kept(n) => Round::Asked(best, n),
         Falls::Stopped(p, n) => Round::Stopped(p, n),
     }
@@ -209,10 +132,9 @@ pub fn ask_round(scene: Scene, bytes: &[u8], level: Levels, m: Triangle, looks: 
     requires { ⌜ Ready scene (now bytes) × Sound m × Countable 6 looks ⌝ }
     ensures { λ r. ⌜ RoundAsked (probeOf scene (now (bytes .entry))) m level looks r ⌝ }
 {
-    let m0 = m.m0;
     let none = Best {
         choice: Choice::Nothing,
-        row: m0,
+        weight: 0,
     };
     let mut x = Pair::P01;
     let mut sofar = Round::Asked(none, looks);

@@ -1,8 +1,8 @@
-// Whole vectors in i32, their products in i64. Each function equals the definition of its name, on vectors small enough.
+// Whole vectors in i32, and their products. Each function equals the definition of its name, on vectors small enough.
 ghost use mathlib.Core.Path.{_≡_};
 ghost use lib.IntN.{_-ℤ_, _*ℤ_};
 ghost use Rattle.integers.specs.Sizes.{Within};
-ghost use Rattle.rules.specs.Vectors.{_⊕_, _⊖_, minus, dot, cross, sphere, lay, size};
+ghost use Rattle.rules.specs.Vectors.{_⊕_, _⊖_, minus, dot, cross, lay, size};
 ghost use Rattle.laws.specs.Bounds.{Bounded};
 use rules::Vector;
 use size::size_of;
@@ -63,21 +63,11 @@ pub fn size(a: Vector) -> u32
     x + y + z
 }
 
-fn multiply(a: i32, b: i32) -> i64
-    requires { ⌜ Within 1000000000 a × Within 1000000000 b ⌝ }
-    ensures { λ r. ⌜ r ≡ a *ℤ b ⌝ }
-{
-    (a as i64) * (b as i64)
-}
-
-fn dot(a: Vector, b: Vector) -> i64
-    requires { ⌜ Bounded 1000000000 a × Bounded 1000000000 b ⌝ }
+pub fn dot(a: Vector, b: Vector) -> i32
+    requires { ⌜ Bounded 10000 a × Bounded 10000 b ⌝ }
     ensures { λ r. ⌜ r ≡ dot a b ⌝ }
 {
-    let x = multiply(a.x, b.x);
-    let y = multiply(a.y, b.y);
-    let z = multiply(a.z, b.z);
-    x + y + z
+    a.x * b.x + a.y * b.y + a.z * b.z
 }
 
 // a * d - b * c
@@ -97,28 +87,4 @@ pub fn cross(a: Vector, b: Vector) -> Vector
         y: minor(a.z, a.x, b.z, b.x),
         z: minor(a.x, a.y, b.x, b.y),
     }
-}
-
-// A term of the expansion along the last column: d·d times the determinant of a and two rows whose cross product is n.
-fn term(d: Vector, n: Vector, a: Vector) -> i64
-    requires { ⌜ Bounded 3069 d × Bounded 18837522 n × Bounded 3069 a ⌝ }
-    ensures { λ r. ⌜ r ≡ dot d d *ℤ dot n a ⌝ }
-{
-    let s = dot(d, d);
-    let t = dot(n, a);
-    s * t
-}
-
-// The four by four determinant of the rows (d, d·d), d = a, b, c, e.
-pub fn sphere(a: Vector, b: Vector, c: Vector, e: Vector) -> i64
-    requires { ⌜ Bounded 2046 a × Bounded 2046 b × Bounded 3069 c × Bounded 3069 e ⌝ }
-    ensures { λ r. ⌜ r ≡ sphere a b c e ⌝ }
-{
-    let n = cross(a, b);
-    let o = cross(c, e);
-    let s = term(e, n, c);
-    let t = term(c, n, e);
-    let u = term(b, o, a);
-    let v = term(a, o, b);
-    s - t + u - v
 }

@@ -21,10 +21,11 @@ use Rattle.laws.specs.Bounds.{Bounded}
 use Rattle.laws.specs.Tally.{Tally, yes, no, Gives, then-yes, then-no, asked-yes, asked-no, at-once, refused-at-once, was-answered}
 use Rattle.falls.specs.declared.Scene.{Scene}
 use Rattle.falls.specs.Scene.{probeOf, Ready}
-use Rattle.round.specs.declared.Best.{Best}
+use Rattle.choice.specs.declared.Best.{Best}
+use Rattle.choice.specs.Sound.{Sound}
 use Rattle.round.specs.declared.Round.{Round}
 use Rattle.round.specs.declared.Round.the-variants.{Asked as IsAsked, Stopped}
-use Rattle.round.specs.Round.{Sound, roundTally, roundLooks, taking, RoundAsked}
+use Rattle.round.specs.Round.{roundTally, roundLooks, taking, RoundAsked}
 use Rattle.walk.specs.declared.Walked.the-variants.{Ended, Refused as IsRefused}
 use Rattle.walk.specs.Walk.{refusalOf, allowed, Walks, Walking}
 

@@ -9,7 +9,8 @@ use Rattle.rules.specs.Asked.{Asked}
 use Rattle.rules.specs.Walk.{Stop, pairs, remaining, Probe, walk, rounds}
 use Rattle.laws.specs.Answers.{stopOf}
 use Rattle.laws.specs.Tally.{Tally, yes, no, Gives, mostLooks}
-use Rattle.round.specs.Round.{Sound, taking}
+use Rattle.choice.specs.Sound.{Sound}
+use Rattle.round.specs.Round.{taking}
 use Rattle.walk.specs.declared.Walked.{Walked}
 use Rattle.walk.specs.declared.Walked.the-variants.{Ended, Refused as IsRefused}
 

@@ -14,7 +14,7 @@ abbrev μ-loop : tie.MeasureT-loop
 ask-pair-requires : tie.Need-ask-pair-requires Inv-loop μ-loop
 ask-pair-requires c κs =
     let h = c .loop .inv in
-    let s = c .before .before .before in
+    let s = c .before .before in
     (s .pre .0, s .pre .1, h .weighed, asking-few (s .pre .2) h)
 
 pub ask-round-spec : {M : Type 1} → statement M

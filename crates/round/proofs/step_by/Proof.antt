@@ -3,14 +3,12 @@ use mathlib.Core.Path.{_∙_}
 use borrow.Author.Needs.{needs}
 use Rattle.rules.specs.Vectors.{_⊖_}
 use Rattle.rules.specs.Walk.{with}
-use Rattle.round.proofs.Pairs.{step-fits}
+use Rattle.choice.specs.Sound.{named, both-fit}
 use Rattle.round.proofs.step_by.Statement.{statement}
 use Rattle.round.proofs.step_by.Tie as tie
 
 vectors-fit : tie.Need-subtract-requires
-vectors-fit c κs =
-    let s = c .before .before in
-    step-fits (s .pre) (s .args .x) (c .before .first-of .ensures) (c .second-of .ensures)
+vectors-fit c κs = both-fit (search named) (search named) tt
 
 returns : tie.Need-returns
 returns c =

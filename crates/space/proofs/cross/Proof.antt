@@ -1,7 +1,6 @@
 -- Each part is a minor, whose numbers are read back from bits.
 use borrow.Author.Needs.{needs}
-use Rattle.integers.specs.Machine.{value}
-use Rattle.space.specs.Bounds.{measured}
+use Rattle.integers.specs.Machine.{machine, known-stands, value}
 use Rattle.rules.specs.Vectors.{cross}
 use Rattle.laws.specs.Parts.{vector-eq}
 use Rattle.space.proofs.cross.Statement.{statement}
@@ -9,7 +8,7 @@ use Rattle.space.proofs.cross.Tie as tie
 
 returns : tie.Need-returns
 unfolding cross
-returns c = vector-eq (value (search measured depth 30 fits 5000) tt) (value (search measured depth 30 fits 5000) tt) (value (search measured depth 30 fits 5000) tt)
+returns c = vector-eq (value (search (machine, known-stands) depth 30 fits 5000) tt) (value (search (machine, known-stands) depth 30 fits 5000) tt) (value (search (machine, known-stands) depth 30 fits 5000) tt)
 
 pub cross-spec : {M : Type 1} → statement M
 cross-spec =

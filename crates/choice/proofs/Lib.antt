@@ -1,0 +1,2 @@
+-- Weights in 32 bits.
+pub mod Bits

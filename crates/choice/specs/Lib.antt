@@ -1,0 +1,4 @@
+-- What the choice keeps, and why that is document 01's choice.
+pub mod Best
+pub mod Sound
+pub mod Lighter
