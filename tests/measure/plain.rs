@@ -112,6 +112,7 @@ impl<S: Solid> Walk<'_, S> {
         Ok(self.solid.filled(point))
     }
 
+    #[inline]
     fn falls(&mut self, u: Vector) -> Result<bool, Stop> {
         let laid = lay(self.signs, u);
         let mut power = 1;
@@ -153,7 +154,8 @@ impl<S: Solid> Walk<'_, S> {
         Stop(7, minus(self.apex, lay(self.signs, unit)))
     }
 
-    /// Rounds over the pairs that take part, with so many steps (none if below zero).
+    /// Rounds over the pairs that take part, with so many steps (none if below zero). As in the
+    /// library, the choice is the first falling pair of least m_l·(m_l - m_k).
     fn rounds<const N: usize>(
         &mut self,
         pairs: [(usize, usize); N],
@@ -161,17 +163,20 @@ impl<S: Solid> Walk<'_, S> {
     ) -> Result<[Vector; 3], Stop> {
         let mut m = UNITS;
         loop {
-            let mut falling = [false; N];
-            for (fell, (k, l)) in falling.iter_mut().zip(pairs) {
-                *fell = self.falls(minus(m[l], m[k]))?;
+            let mut best = None;
+            for (k, l) in pairs {
+                let way = minus(m[l], m[k]);
+                if self.falls(way)? {
+                    let weight = dot(m[l], way);
+                    if best.map_or(true, |(_, least)| weight < least) {
+                        best = Some(((k, l), weight));
+                    }
+                }
             }
-            if falling == [false; N] {
-                return Ok(m);
-            }
+            let Some(((k, l), _)) = best else { return Ok(m) };
             if self.steps as i32 >= allowed {
                 return Err(Stop(9, self.apex));
             }
-            let (k, l) = choice(&m, pairs, falling);
             m[k] = minus(m[k], m[l]);
             self.steps += 1;
         }
@@ -212,48 +217,6 @@ impl<S: Solid> Walk<'_, S> {
             apex: point(self.apex),
         })
     }
-}
-
-type Row = [i64; 4];
-
-#[inline]
-fn row(d: Vector) -> Row {
-    [d[0], d[1], d[2], dot(d, d)].map(i64::from)
-}
-
-/// The six two by two minors of two rows, in the order 01 02 03 12 13 23.
-#[inline]
-fn minors(a: Row, b: Row) -> [i64; 6] {
-    let minor = |i: usize, j: usize| a[i] * b[j] - a[j] * b[i];
-    [minor(0, 1), minor(0, 2), minor(0, 3), minor(1, 2), minor(1, 3), minor(2, 3)]
-}
-
-/// The four by four determinant by the minors of its upper and its lower two rows.
-#[inline]
-fn determinant(upper: &[i64; 6], lower: [i64; 6]) -> i64 {
-    upper[0] * lower[5] - upper[1] * lower[4] + upper[2] * lower[3] + upper[3] * lower[2]
-        - upper[4] * lower[1]
-        + upper[5] * lower[0]
-}
-
-/// The first falling pair of which no other is inside its sphere. As in the library, each falling
-/// pair is compared with the best so far alone.
-fn choice<const N: usize>(
-    m: &[Vector; 3],
-    pairs: [(usize, usize); N],
-    falling: [bool; N],
-) -> (usize, usize) {
-    let upper = minors(row(minus(m[0], m[1])), row(minus(m[0], m[2])));
-    let mut best: Option<(usize, Row)> = None;
-    for pair in (0..N).filter(|&pair| falling[pair]) {
-        let (k, l) = pairs[pair];
-        let own = row(plus(minus(m[l], m[k]), m[0]));
-        best = match best {
-            Some((_, kept)) if determinant(&upper, minors(kept, own)) >= 0 => best,
-            _ => Some((pair, own)),
-        };
-    }
-    pairs[best.expect("a pair falls").0]
 }
 
 fn refused(number: u32, place: Vector, steps: u32, looks: u32) -> Pick {
