@@ -19,8 +19,8 @@ use Rattle.choice.specs.Best.{bestOf, lighter}
 abbrev fromBits : ℤ → ℤ
 fromBits z = toZ w32 (ofZ w32 z)
 
-pub weighs : (x : Pair) {r : ℤ} {l w : Vector} → Bounded 10000 l → Bounded 10000 w → r ≡ dot l w → bestOf (Chosen x) (fromBits r) ≡ bestOf (Chosen x) (dot l w)
-weighs x h k e = ap (bestOf (Chosen x)) (ap fromBits e ∙ read-back w32 (bounded-stands (within-dot h k)) tt)
+pub weight-read : (x : Pair) {r : ℤ} {l w : Vector} → Bounded 10000 l → Bounded 10000 w → r ≡ dot l w → bestOf (Chosen x) (fromBits r) ≡ bestOf (Chosen x) (dot l w)
+weight-read x h k e = ap (bestOf (Chosen x)) (ap fromBits e ∙ read-back w32 (bounded-stands (within-dot h k)) tt)
 
 module _ (sofar next : Best) where
   pub keeps-first : sofar .choice ≡ Nothing → next ≡ lighter sofar next
