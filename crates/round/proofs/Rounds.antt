@@ -77,21 +77,26 @@ module _ {c : Probe} {m : Triangle} {x : Pair} {k : Best} {n : ℕ} {f : Falls} 
 pub ruleset ways = (way-fell, way-kept, way-stopped, prefers)
 
 -- ---- any pair: asked if it takes part, else passed over
-module _ {c : Probe} {m : Triangle} {level : Levels} {x : Pair} {k : Best} {n : ℕ} {b : Bool} (t : b ≡ takesPart level x) where
-  pub pair-asked : {r : Round} → b ≡ true → WayAsked c m x k n r → PairAsked c m level x k n r
-  unfolding only keep
-  pair-asked g h = record { is = λ ps. rw (sym t ∙ g) (h .is (taking level ps)); weighed = h .weighed; few = h .few }
+module _ {c : Probe} {m : Triangle} {level : Levels} {x : Pair} {before : Round} where
+  pub pair-halted : {p : Vector} {n : ℕ} → before ≡ Stopped p n → PairAsked c m level x before (Stopped p n)
+  pair-halted e = record { is = λ ps. rw e refl; weighed = tt; few = omega (arith, ap roundLooks e) }
 
-  pub pair-passed : b ≡ false → Weighs m k → PairAsked c m level x k n (IsAsked k n)
-  unfolding only keep
-  pair-passed g o = record { is = λ ps. rw (sym t ∙ g) refl; weighed = o; few = omega arith }
+  module _ {k : Best} {n : ℕ} {b : Bool} (t : b ≡ takesPart level x) (e : before ≡ IsAsked k n) where
+    pub pair-asked : {r : Round} → b ≡ true → WayAsked c m x k n r → PairAsked c m level x before r
+    unfolding only keep
+    pair-asked g h = record { is = λ ps. rw (e, sym t ∙ g) (h .is (taking level ps)); weighed = h .weighed; few = omega (arith, h .few, ap roundLooks e) }
 
-pub ruleset pairing = (pair-asked, pair-passed)
+    pub pair-passed : b ≡ false → Weighed m before → PairAsked c m level x before (IsAsked k n)
+    unfolding only keep
+    pair-passed g o = record { is = λ ps. rw (e, sym t ∙ g) refl; weighed = rw e at o; few = omega (arith, ap roundLooks e) }
+
+pub ruleset pairing = (pair-halted, pair-asked, pair-passed)
 
 -- ---- the whole round
-none-left : (c : Probe) (m : Triangle) (b : Choice) (n : ℕ) → yes b n ≡ rest c m [] (yes b n)
+none-left : (c : Probe) (m : Triangle) (r : Tally Vector Choice) → r ≡ rest c m [] r
 unfolding weighing falling best
-none-left c m b n = then-yes _ at-once at-once .is
+none-left c m (yes b n) = then-yes _ at-once at-once .is
+none-left c m (no p n) = refl
 
 best-of-all : (c : Probe) (m : Triangle) (ps : List Pair) (n : ℕ) → detOf m ≡ pos 1 → rest c m ps (yes Nothing n) ≡ tally n (round c ps m)
 unfolding weighing round
@@ -109,53 +114,48 @@ behind P21 = []
 pub left : Pair → ℕ
 left x = length (behind x)
 
--- before the pair x, with k the best so far and t looks made: the rest of the round gives what the whole round gives
+-- before the pair x: the rest of the round gives what the whole round gives
 module _ (c : Probe) (m : Triangle) (level : Levels) (n : ℕ) where
-  pub record Asking (x : Pair) (k : Best) (t : ℕ) : Type 0 where
-    pub rest-gives : rest c m (taking level (x ∷ behind x)) (yes (k .choice) t) ≡ tally n (round c (taking level pairs) m)
-    pub weighs : Weighs m k
-    pub few : t + mostLooks (suc (left x)) ≤ n + mostLooks 6
+  pub record Asking (x : Pair) (sofar : Round) : Type 0 where
+    pub rest-gives : rest c m (taking level (x ∷ behind x)) (roundTally sofar) ≡ tally n (round c (taking level pairs) m)
+    pub weighed : Weighed m sofar
+    pub few : roundLooks sofar + mostLooks (suc (left x)) ≤ n + mostLooks 6
 
-  abbrev Goes : Pair → Choice → Best → ℕ → Type 0
-  Goes x Nothing b u = RoundAsked c m level n (IsAsked b u)
-  Goes x (Chosen y) b u = Asking y b u × (left x ≡ suc (left y))
+  abbrev Goes : Pair → Choice → Round → Type 0
+  Goes x Nothing r = RoundAsked c m level n r
+  Goes x (Chosen y) r = Asking y r × (left x ≡ suc (left y))
 
-  module _ {k b : Best} {t u : ℕ} where
-    goes-on : (x y : Pair) → behind x ≡ y ∷ behind y → left x ≡ suc (left y) → Asking x k t → PairAsked c m level x k t (IsAsked b u) → Asking y b u × (left x ≡ suc (left y))
-    goes-on x y a l h p = (record { rest-gives = ap (λ (ps : List Pair). rest c m (taking level ps) (yes (b .choice) u)) (sym a) ∙ p .is (behind x) ∙ h .rest-gives; weighs = p .weighed; few = omega (arith, p .few, h .few, l) }, l)
+  goes-on : (x y : Pair) {sofar r : Round} → behind x ≡ y ∷ behind y → left x ≡ suc (left y) → Asking x sofar → PairAsked c m level x sofar r → Asking y r × (left x ≡ suc (left y))
+  goes-on x y {sofar} {r} b l h p = (record { rest-gives = ap (λ (ps : List Pair). rest c m (taking level ps) (roundTally r)) (sym b) ∙ p .is (behind x) ∙ h .rest-gives; weighed = p .weighed; few = omega (arith, p .few, h .few, l) }, l)
 
-    goes : (x : Pair) → Asking x k t → PairAsked c m level x k t (IsAsked b u) → Goes x (pairAfter x) b u
-    unfolding behind left only
-    goes P01 h p = goes-on P01 P02 refl refl h p
-    goes P02 h p = goes-on P02 P10 refl refl h p
-    goes P10 h p = goes-on P10 P12 refl refl h p
-    goes P12 h p = goes-on P12 P20 refl refl h p
-    goes P20 h p = goes-on P20 P21 refl refl h p
-    goes P21 h p = record { gives = record { is = none-left c m (b .choice) u ∙ p .is [] ∙ h .rest-gives }; weighed = p .weighed; few = omega (arith, p .few, h .few) }
+  goes : (x : Pair) {sofar r : Round} → Asking x sofar → PairAsked c m level x sofar r → Goes x (pairAfter x) r
+  unfolding behind left only
+  goes P01 h p = goes-on P01 P02 refl refl h p
+  goes P02 h p = goes-on P02 P10 refl refl h p
+  goes P10 h p = goes-on P10 P12 refl refl h p
+  goes P12 h p = goes-on P12 P20 refl refl h p
+  goes P20 h p = goes-on P20 P21 refl refl h p
+  goes P21 {sofar} {r} h p = record { gives = record { is = none-left c m (roundTally r) ∙ p .is [] ∙ h .rest-gives }; weighed = p .weighed; few = omega (arith, p .few, h .few) }
 
 module _ {c : Probe} {m : Triangle} {level : Levels} {n : ℕ} where
-  pub asking-begins : Sound m → Asking c m level n P01 (bestOf Nothing (pos 0)) n
+  pub asking-begins : Sound m → Asking c m level n P01 (IsAsked (bestOf Nothing (pos 0)) n)
   unfolding behind left
-  asking-begins h = record { rest-gives = best-of-all c m (taking level pairs) n (h .unimodular); weighs = refl; few = omega arith }
+  asking-begins h = record { rest-gives = best-of-all c m (taking level pairs) n (h .unimodular); weighed = refl; few = omega arith }
 
-  module _ {x : Pair} {k : Best} {t : ℕ} {r : Round} (h : Asking c m level n x k t) (p : PairAsked c m level x k t r) where
-    pub asking-stops : {q : Vector} {u : ℕ} → r ≡ Stopped q u → RoundAsked c m level n (Stopped q u)
-    asking-stops e = record { gives = record { is = sym (ap (λ (r : Round). rest c m (taking level (behind x)) (roundTally r)) e) ∙ p .is (behind x) ∙ h .rest-gives }; weighed = tt; few = omega (arith, p .few, h .few, ap roundLooks e) }
+  module _ {x : Pair} {sofar r : Round} {next : Choice} (h : Asking c m level n x sofar) (p : PairAsked c m level x sofar r) (e : next ≡ pairAfter x) where
+    pub asking-ends : next ≡ Nothing → RoundAsked c m level n r
+    asking-ends i = subst (λ (d : Choice). Goes c m level n x d r) (sym e ∙ i) (goes c m level n x h p)
 
-    module _ {b : Best} {u : ℕ} {next : Choice} (f : r ≡ IsAsked b u) (e : next ≡ pairAfter x) where
-      on : (d : Choice) → next ≡ d → Goes c m level n x d b u
-      on d i = subst (λ (d : Choice). Goes c m level n x d b u) (sym e ∙ i) (goes c m level n x h (subst (PairAsked c m level x k t) f p))
+    on : {y : Pair} → next ≡ Chosen y → Asking c m level n y r × (left x ≡ suc (left y))
+    on i = subst (λ (d : Choice). Goes c m level n x d r) (sym e ∙ i) (goes c m level n x h p)
 
-      pub asking-ends : next ≡ Nothing → RoundAsked c m level n (IsAsked b u)
-      asking-ends i = on Nothing i
+    pub asking-on : {y : Pair} → next ≡ Chosen y → Asking c m level n y r
+    asking-on i = on i .0
 
-      pub asking-on : {y : Pair} → next ≡ Chosen y → Asking c m level n y b u
-      asking-on {y} i = on (Chosen y) i .0
+    pub asking-less : {y : Pair} → next ≡ Chosen y → left y < left x
+    asking-less i = omega (arith, on i .1)
 
-      pub asking-less : {y : Pair} → next ≡ Chosen y → left y < left x
-      asking-less {y} i = omega (arith, on (Chosen y) i .1)
+  pub asking-few : {x : Pair} {sofar : Round} → Countable 6 n → Asking c m level n x sofar → Countable 1 (roundLooks sofar)
+  asking-few {x} k h = omega (arith, k, h .few)
 
-  pub asking-few : {x : Pair} {k : Best} {t : ℕ} → Countable 6 n → Asking c m level n x k t → Countable 1 t
-  asking-few {x} l h = omega (arith, l, h .few)
-
-pub ruleset asking = (asking-begins, asking-stops, asking-ends, asking-on, asking-less)
+pub ruleset asking = (asking-begins, asking-ends, asking-on, asking-less)

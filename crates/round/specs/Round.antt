@@ -61,10 +61,10 @@ module _ (c : Probe) (m : Triangle) where
 
   module _ (level : Levels) where
     -- the same, with the pair x asked if it takes part
-    pub record PairAsked (x : Pair) (k : Best) (n : ℕ) (r : Round) : Type 0 where
-      pub is : (ps : List Pair) → rest (taking level ps) (roundTally r) ≡ rest (taking level (x ∷ ps)) (yes (k .choice) n)
+    pub record PairAsked (x : Pair) (before r : Round) : Type 0 where
+      pub is : (ps : List Pair) → rest (taking level ps) (roundTally r) ≡ rest (taking level (x ∷ ps)) (roundTally before)
       pub weighed : Weighed m r
-      pub few : roundLooks r ≤ n + mostLooks 1
+      pub few : roundLooks r ≤ roundLooks before + mostLooks 1
 
     pub record RoundAsked (looks : ℕ) (r : Round) : Type 0 where
       pub gives : Gives looks (round c (taking level pairs) m) (roundTally r)

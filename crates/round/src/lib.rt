@@ -5,7 +5,7 @@ ghost use Rattle.laws.specs.Tally.{Countable};
 ghost use Rattle.falls.specs.Scene.{probeOf, Ready};
 ghost use Rattle.choice.specs.Sound.{Sound};
 ghost use Rattle.choice.specs.Lighter.{Weighs};
-ghost use Rattle.round.specs.Round.{pairAfter, WayAsked, PairAsked, RoundAsked};
+ghost use Rattle.round.specs.Round.{Weighed, pairAfter, roundLooks, WayAsked, PairAsked, RoundAsked};
 use choice::Best;
 use falls::Falls;
 use falls::Scene;
@@ -96,23 +96,20 @@ fn ask_way(scene: Scene, bytes: &[u8], m: Triangle, x: Pair, best: Best, looks: 
     }
 }
 
-// The pair x, asked if it takes part.
-fn ask_pair(
-    scene: Scene,
-    bytes: &[u8],
-    level: Levels,
-    m: Triangle,
-    x: Pair,
-    best: Best,
-    looks: u32,
-) -> Round
-    requires { ⌜ Ready scene (now bytes) × Sound m × Weighs m best × Countable 1 looks ⌝ }
-    ensures { λ r. ⌜ PairAsked (probeOf scene (now (bytes .entry))) m level x best looks r ⌝ }
+// One pair more, asked if it takes part.
+fn ask_pair(scene: Scene, bytes: &[u8], level: Levels, m: Triangle, x: Pair, sofar: Round) -> Round
+    requires { ⌜ Ready scene (now bytes) × Sound m × Weighed m sofar × Countable 1 (roundLooks sofar) ⌝ }
+    ensures { λ r. ⌜ PairAsked (probeOf scene (now (bytes .entry))) m level x sofar r ⌝ }
 {
-    if takes_part(level, x) {
-        ask_way(scene, bytes, m, x, best, looks)
-    } else {
-        Round::Asked(best, looks)
+    match sofar {
+        Round::Stopped(p, n) => Round::Stopped(p, n),
+        Round::Asked(best, n) => {
+            if takes_part(level, x) {
+                ask_way(scene, bytes, m, x, best, n)
+            } else {
+                Round::Asked(best, n)
+            }
+        }
     }
 }
 
@@ -135,30 +132,22 @@ pub fn ask_round(scene: Scene, bytes: &[u8], level: Levels, m: Triangle, looks: 
     requires { ⌜ Ready scene (now bytes) × Sound m × Countable 6 looks ⌝ }
     ensures { λ r. ⌜ RoundAsked (probeOf scene (now (bytes .entry))) m level looks r ⌝ }
 {
-    let mut x = Pair::P01;
-    let mut best = Best {
+    let none = Best {
         choice: Choice::Nothing,
         weight: 0,
     };
-    let mut n = looks;
+    let mut x = Pair::P01;
+    let mut sofar = Round::Asked(none, looks);
     let end = loop {
-        let r = ask_pair(scene, bytes, level, m, x, best, n);
-        match r {
-            Round::Stopped(p, k) => {
-                break Round::Stopped(p, k);
+        let r = ask_pair(scene, bytes, level, m, x, sofar);
+        let next = pair_after(x);
+        match next {
+            Choice::Nothing => {
+                break r;
             }
-            Round::Asked(b, k) => {
-                let next = pair_after(x);
-                match next {
-                    Choice::Nothing => {
-                        break Round::Asked(b, k);
-                    }
-                    Choice::Chosen(y) => {
-                        x = y;
-                        best = b;
-                        n = k;
-                    }
-                }
+            Choice::Chosen(y) => {
+                x = y;
+                sofar = r;
             }
         }
     };
