@@ -14,7 +14,7 @@ use Rattle.rules.specs.declared.Levels.{Levels}
 use Rattle.rules.specs.declared.Triangle.{Triangle}
 use Rattle.rules.specs.declared.Pair.{Pair}
 use Rattle.rules.specs.Vectors.{size}
-use Rattle.rules.specs.Walk.{Stop, stop, powers, Axis, units, way, pairs, normal, keep, only, remaining, takesPart, levelled, Probe, Found, rounds, found}
+use Rattle.rules.specs.Walk.{Stop, stop, powers, Axis, units, way, pairs, normal, keep, only, remaining, takesPart, levelled, Probe, Found, axes, rounds, found}
 use Rattle.rules.specs.Pick.{probe, pick}
 use Rattle.laws.specs.Tests.{Each}
 use Rattle.laws.specs.Tame.{Tame, units-tame, step-tame}
@@ -179,24 +179,27 @@ module _ (ok : Bool) (look : Vector → Look) (p : Vector) (frame reach : ℤ) w
     axis-rule : (k : Axis) → AxisRule c RefusalHere k
     axis-rule k = record { eight = λ p h. eight c R p 0 (none-taken c R) h; seven = λ _ _. refuse c R 7 _ (omega arith) }
 
-    every-pick : PickRule ok look p frame reach Level Ended (Few N PickFound) (Few N RefusalHere)
+    every-pick : PickRule ok look p frame reach (powers R) (axes c) Level Ended (Few N PickFound) (Few N RefusalHere)
     every-pick = record {
-      one = λ _. at-once (omega arith) (omega arith);
-      two = λ _. at-once (omega arith) (omega arith);
-      three = λ _. at-once (omega arith) (omega arith);
-      fourStart = λ _. at-once (omega arith) (omega arith);
-      fourApex = λ _. at-once (omega arith) (omega arith);
-      five = λ h _. at-once (omega arith) (omega (arith, start-few (small h)));
-      six = λ h _ _. at-once (omega arith) (omega (arith, start-few (small h)));
-      axesSay = λ h.
+      inputs = record {
+        one = λ _. at-once (omega arith) (omega arith);
+        two = λ _. at-once (omega arith) (omega arith);
+        three = λ _. at-once (omega arith) (omega arith);
+        fourStart = λ _. at-once (omega arith) (omega arith);
+        fourApex = λ _. at-once (omega arith) (omega arith);
+        five = λ h _. at-once (omega arith) (omega (arith, start-few (small h)));
+        six = λ h _ _. at-once (omega arith) (omega (arith, start-few (small h)));
+      };
+      beginSays = λ h.
           says-weaker _ (λ v t k. (k .0, omega (arith, k .1))) (λ r t k. fewer (λ l. omega (arith, l, start-few (small (h .passed)))) k)
           (axes-says c axis-rule (λ _. refuse c R 7 _ (omega arith)));
-      roundsSay = λ h v t k.
-          says-weaker _ (λ e s j. (k .0, fewer (λ l. rounds-few h v t s k l) j)) (λ r s j. fewer (λ l. rounds-few h v t s k l) j) (rounds-say c R v (k .0));
-      ten = λ h v e t k n. record { holds = other-than-8 c R 10 _ (e .1) (omega arith) (k .1 .holds .fewSteps .1); few = k .1 .few };
-      ends = λ h v e t k n. record {
-        holds = record { passed = h .passed; accepting = record { level = v; asked = k .0; at = e; is = refl; end = k .1 .holds; fits = leb→le (size (levelled v (normal (e .0)))) R n } };
-        few = k .1 .few;
+      toTheEnd = λ h v. record {
+        roundsSay = λ t k. says-weaker _ (λ e s j. (k .0, fewer (λ l. rounds-few h v t s k l) j)) (λ r s j. fewer (λ l. rounds-few h v t s k l) j) (rounds-say c R v (k .0));
+        ten = λ e t k n. record { holds = other-than-8 c R 10 _ (e .1) (omega arith) (k .1 .holds .fewSteps .1); few = k .1 .few };
+        ends = λ e t k n. record {
+          holds = record { passed = h .passed; accepting = record { level = v; asked = k .0; at = e; is = refl; end = k .1 .holds; fits = leb→le (size (levelled v (normal (e .0)))) R n } };
+          few = k .1 .few;
+        };
       };
     }
       where

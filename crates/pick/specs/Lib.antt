@@ -1,4 +1,5 @@
 -- What the pick promises.
 pub mod Pick
+pub mod Facts
 pub mod Promises
 pub mod Excluded

@@ -1,0 +1,2 @@
+-- What the quick touch promises leaves no choice.
+pub mod Promises
