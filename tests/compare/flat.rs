@@ -1,9 +1,10 @@
 //! The second program's answers in the header's structs.
 
 use crate::answers;
-use second::pick::{Pick, Record, Refusal};
+use second::pick::Pick;
 use second::point::Point;
 use second::solid::Sizes;
+use second::walk::{Record, Refusal};
 use second::{display, p4};
 
 fn point(place: Point) -> answers::Point {

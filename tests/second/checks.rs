@@ -3,9 +3,10 @@
 use crate::display::display;
 use crate::listed::*;
 use crate::p4;
-use crate::pick::{pick, Refusal};
+use crate::pick::pick;
 use crate::session::{numbers, pick_of, session, MOST_BYTES};
 use crate::solid::{Sizes, Stack};
+use crate::walk::Refusal;
 
 pub fn all() {
     lines();
