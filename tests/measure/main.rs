@@ -21,10 +21,10 @@ mod worst;
 
 use chance::Chance;
 use second::listed::slope_stack;
-use second::pick::Record;
 use second::point::dot;
 use second::session::pick_of;
 use second::solid::WEDGE_SIDE;
+use second::walk::Record;
 use std::fmt::Debug;
 use std::time::Instant;
 
