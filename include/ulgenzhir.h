@@ -16,7 +16,7 @@
  *     same call, and no other thread touches it, or writes one that is only
  *     read, during the call.
  *
- * Numbers. 0 is success. Of a pick and of a touch, in the order they are judged:
+ * Numbers. 0 is success. Of a pick or a touch, in the order they are judged:
  *    1  reach outside 1 to 256                            place 0 0 0
  *    2  frame outside 0 to 7                              place 0 0 0
  *    3  wedge number or stack size out of range,
@@ -118,8 +118,9 @@ typedef struct {
  * A guess is exact, the slope's normal and the triangle of every accepted pick
  * on it in that frame, where the apex is on the plane's first empty level (on
  * a wedge ax + by + cz = h there) of a slope with no part against the frame,
- * no common divisor and sizes that add to at most reach. Elsewhere a touch may
- * be wrong, or refused where a pick is not.
+ * no common divisor and sizes that add to at most reach. Elsewhere it may be
+ * wrong. And a touch may be refused where a pick is not: on a face level along
+ * an axis that axis's corner is empty, so no touch is accepted there.
  */
 ulgenzhir_touch ulgenzhir_touch_wedge(int32_t a, int32_t b, int32_t c, int32_t h,
                                       int32_t px, int32_t py, int32_t pz,

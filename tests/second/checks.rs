@@ -8,7 +8,7 @@ use crate::point::{dot, lay, plus, signs, Point};
 use crate::session::{numbers, pick_of, session, told, told_touch, touch_of, MOST_BYTES};
 use crate::solid::{Sizes, Stack, Wedge};
 use crate::touch::{touch, Guess};
-use crate::walk::Refusal;
+use crate::walk::{Record, Refusal};
 
 pub fn all() {
     lines();
@@ -83,8 +83,8 @@ fn on_first_empty_level(parts: Point, frame: i64) {
     let reach = parts.iter().sum::<i64>().max(1);
     match touch(&wedge, start, frame, reach) {
         Ok(Guess(touched)) => {
-            let picked = pick(&wedge, start, frame, reach).unwrap();
-            assert_eq!((touched.normal, touched.vectors), (picked.normal, picked.vectors));
+            let Record { normal, vectors, apex, .. } = pick(&wedge, start, frame, reach).unwrap();
+            assert_eq!((touched.normal, touched.vectors, touched.apex), (normal, vectors, apex));
         }
         Err(refusal) if parts == [0; 3] => assert_eq!(refusal.number, 5),
         Err(refusal) => {

@@ -179,7 +179,8 @@ pub const TOUCHES: &[(&str, &str)] = &[
     ("5 6 7 9216 511 511 511 0 17", "R 10 512 512 512 7 53"),
     ("5 6 7 9216 511 511 511 0 10", "R 10 512 512 512 7 53"),
     ("5 6 7 9216 511 511 511 0 9", "R 9 512 512 512 6 47"),
-    // 8 only at power 1, beside a wall: at once, after a step. In the middle a long reach is free.
+    // 8 only at power 1, beside a wall: at once, after a step. In the middle a long reach is free,
+    // and the steps are those of the picks above.
     ("1 1 1 3069 1022 1022 1022 0 3", "R 8 1022 1024 1023 0 5"),
     ("1 2 5 8 0 0 0 0 8", "R 8 -1 2 1 1 11"),
     ("1 1 2 2048 511 511 511 0 256", "G 1 1 2 1 17"),
