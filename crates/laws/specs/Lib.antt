@@ -25,8 +25,11 @@ pub mod Frames
 pub mod Ranges
 pub mod Boxes
 pub mod PickRule
+pub mod Corners
 pub mod Picks
+pub mod Touches
 pub mod Answers
+pub mod Touched
 pub mod BothWays
 pub mod Stacks
 pub mod Theorems

@@ -35,6 +35,10 @@ module _ {c : Probe} {R : ℕ} {v : Levels} {Begun : List Vector → Type 0} {En
   pub end-by-rule : (t : List Vector) → Begun t → Says (λ f s. Finds f (t ++ s)) (λ r s. Stops r (t ++ s)) (rounds c R v >>= end c R v)
   end-by-rule t h = says-bind {G = λ r s. Stops r (t ++ s)} _ _ (rule .roundsSay t h) (λ r s x. x) (λ e s x. end-says e t s x)
 
+-- a look at a voxel that was judged inside
+pub looked-inside : (c : Probe) {G : Stop → List Vector → Type 0} (a : Vector) → T (isInside (c .look a)) → Says (λ b t. (c .look a ≡ As b) × (t ≡ a ∷ [])) G (asked 0 (lookAt (c .look) a))
+looked-inside c a i = says-asked 0 _ (λ r t h. absurd (not-outside (c .look) a i (h .1))) (look-says c a)
+
 -- ---- the inputs
 module _ (ok : Bool) (look : Vector → Look) (p : Vector) (frame reach : ℤ) where
   abbrev c : Probe
@@ -76,10 +80,6 @@ module _ (ok : Bool) (look : Vector → Look) (p : Vector) (frame reach : ℤ) w
     pub beginSays : Faced → Says (λ v t. Level v (p ∷ probe look p frame reach .apex ∷ t)) (λ r t. Stops r (p ∷ probe look p frame reach .apex ∷ t)) begin
     pub toTheEnd : Faced → (v : Levels) → EndRule (atPowers ls (probe look p frame reach)) (natAbs reach) v (Level v) (Ended v) Finds Stops
 
-  -- a look at a voxel that was judged inside
-  looked : {G : Stop → List Vector → Type 0} (a : Vector) → T (isInside (look a)) → Says (λ b t. (look a ≡ As b) × (t ≡ a ∷ [])) G (asked 0 (lookAt (c .look) a))
-  looked a i = says-asked 0 _ (λ r t h. absurd (not-outside look a i (h .1))) (look-says c a)
-
   module _ {Stops : Stop → List Vector → Type 0} (rule : InputRule Stops) where
     pub judging-says : Says (λ _ t. Passed × (t ≡ [])) Stops (judging ok look p frame reach)
     unfolding judging placing
@@ -94,9 +94,9 @@ module _ (ok : Bool) (look : Vector → Look) (p : Vector) (frame reach : ℤ) w
     pub facing-says : (ls : List ℕ) → Passed → Says (λ _ t. Faced × (t ≡ p ∷ probe look p frame reach .apex ∷ [])) Stops (facing (atPowers ls (probe look p frame reach)) p)
     unfolding facing
     facing-says ls h =
-        says-bind {G = Stops} _ _ (looked {G = Stops} p (h .startInside)) (λ r t k. k) (λ f t a. rw (a .1)
+        says-bind {G = Stops} _ _ (looked-inside c {G = Stops} p (h .startInside)) (λ r t k. k) (λ f t a. rw (a .1)
         (says-ensure f _ _ (not-filled f (a .0)) (λ filled.
-        says-bind {G = λ r s. Stops r (p ∷ s)} _ _ (looked {G = λ r s. Stops r (p ∷ s)} q (h .apexInside)) (λ r s k. k) (λ g s b. rw (b .1)
+        says-bind {G = λ r s. Stops r (p ∷ s)} _ _ (looked-inside c {G = λ r s. Stops r (p ∷ s)} q (h .apexInside)) (λ r s k. k) (λ g s b. rw (b .1)
         (says-test (not g) _ (filled-apex f g (a .0) filled (b .0)) (λ n. (record { passed = h; startFilled = is-filled f (a .0) filled; apexEmpty = is-empty g (b .0) n }, refl)))))))
       where
         is-filled : (b : Bool) → look p ≡ As b → T b → look p ≡ Filled

@@ -35,7 +35,7 @@ use Rattle.laws.specs.PickRule.{InputRule, PickRule, pick-by-rule}
 use Rattle.range.specs.Ranges.{between-naturals}
 use Rattle.slope.specs.Demands.{Inputs, signsOf, probeAt, powersOf, remainingOf, OnSlope}
 use Rattle.slope.specs.Falls.{Near, fell-is}
-use Rattle.slope.specs.Ideal.{ideal, Upright, heights, Even, ideal-even}
+use Rattle.slope.specs.Ideal.{Upright, heights, Even, ideal-even, idealOf}
 use Rattle.slope.specs.Ends.{at-least-1, multiple, is-normal}
 use Rattle.slope.specs.Rounds.{Edge, edge-sideways, slope-walk}
 
@@ -100,15 +100,15 @@ module _ (n : Vector) (t : ℤ) (i : Inputs) (o : OnSlope n t i) where
   H = raised (levelsOf n) (lay (signsOf i) n)
 
   abbrev pub ideally : Triangle × ℕ
-  ideally = ideal (raised (levelsOf n) (lay (signsOf i) n)) (levelsOf n) (size n - remainingOf n) 0 units
+  ideally = idealOf (signsOf i) n
 
   g : Signs s
   g = signs-are _
 
-  upward : (k : Axis) → pos 0 ≤ℤ part k N
+  pub upward : (k : Axis) → pos 0 ≤ℤ part k (lay (signsOf i) n)
   upward k = part-of (o .direction .signed) k
 
-  level-is : (k : Axis) → level v k ≡ isZero (part k N)
+  pub level-is : (k : Axis) → level (levelsOf n) k ≡ isZero (part k (lay (signsOf i) n))
   level-is k = levels-of n k ∙ sym (lay-part-zero s n g k)
 
   lies : Lies v N
@@ -132,10 +132,10 @@ module _ (n : Vector) (t : ℤ) (i : Inputs) (o : OnSlope n t i) where
   fits : w ≤ R
   fits = omega (arith, parts, o .direction .withinReach, between-naturals 1 256 (i .reach) (o .permitted .permittedReach) .2)
 
-  below : (v : Vector) → lookOf v ≡ Filled → dot n v <ℤ t
+  pub below : (v : Vector) → look (i .solid) (i .bytes) v ≡ Filled → dot n v <ℤ t
   below v e = let f = look-as (i .solid) (i .bytes) v true e in ltZ-yes (rw (sym (o .filledBelow v (f .0)) ∙ f .1) tt)
 
-  above : (v : Vector) → lookOf v ≡ Empty → t ≤ℤ dot n v
+  pub above : (v : Vector) → look (i .solid) (i .bytes) v ≡ Empty → t ≤ℤ dot n v
   above v e = let f = look-as (i .solid) (i .bytes) v false e in ltZ-no (rw (sym (o .filledBelow v (f .0)) ∙ f .1) tt)
 
   near : Near c n t R
@@ -175,7 +175,7 @@ module _ (n : Vector) (t : ℤ) (i : Inputs) (o : OnSlope n t i) where
       let one = o .direction .noCommonDivisor _ _ (at-least-1 N v lies (ideally .0) end-even k (low .1)) n-multiple in
       ap (lay s) (is-normal N v lies (ideally .0) end-even k (low .1) one) ∙ lay-lay s n g
 
-  end-fits : T (leb (size (levelled v (normal (ideally .0)))) R)
+  pub end-fits : T (leb (size (levelled (levelsOf n) (normal (ideally .0)))) (natAbs (i .reach)))
   end-fits = rw (← lay-size s (levelled v (normal (ideally .0))) g, end-normal) (le→leb w R fits)
 
   -- ---- the rounds, at any powers that reach the plane; F holds of refusal 8
