@@ -193,6 +193,7 @@ pub const TOUCHES: &[(&str, &str)] = &[
     ("2 2 4 808 100 100 100 0 8", "G 1 1 2 1 17"),
     // Off the level it may be wrong: no more than power 1 is looked at. (The steps of (2,3,9) are
     // the second program's.)
+    ("2 2 3 707 100 100 100 0 7", "G 2 2 3 3 29"),
     ("2 2 3 706 100 100 100 0 7", "G 1 1 1 0 11"),
     ("2 3 9 1413 100 100 100 0 14", "G 1 1 4 3 29"),
     ("2 3 9 1414 100 100 100 0 14", "G 2 3 9 7 53"),

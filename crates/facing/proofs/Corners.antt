@@ -1,6 +1,6 @@
 -- The corners, one by one: a filled one goes on to the next, one that isn't is refusal 11, and after a refusal none is asked.
 use mathlib.Core.Path.{_≡_, refl, sym, ap, _∙_}
-use mathlib.Core.List.{List, []}
+use mathlib.Core.List.{[]}
 use Prim.Native.Nat.{ℕ, _+_}
 use native.Mathlib.Omega.{arith}
 use mir.Syntax.{w32}
@@ -11,7 +11,7 @@ use Rattle.rules.specs.declared.Look.the-variants.{Filled, Empty, Outside}
 use Rattle.rules.specs.declared.Refused.{Refused}
 use Rattle.rules.specs.Vectors.{_⊕_, minus, lay, unit0, unit1, unit2}
 use Rattle.rules.specs.Walk.{Stop, stop, Probe, corner, cornersFilled}
-use Rattle.laws.specs.Tally.{Tally, yes, no, tally, Gives, Countable, then-yes, then-no, asked-yes, asked-no, ensured, not-ensured, at-once, filled-there, empty-there, outside-there}
+use Rattle.laws.specs.Tally.{Tally, yes, no, Countable, then-yes, then-no, asked-yes, asked-no, ensured, not-ensured, at-once, filled-there, empty-there, outside-there}
 use Rattle.walk.specs.Walk.{refusalOf}
 use Rattle.facing.specs.declared.Cleared.{Cleared}
 use Rattle.facing.specs.declared.Cleared.the-variants.{Clear, Refused as IsRefused}

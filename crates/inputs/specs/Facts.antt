@@ -11,7 +11,6 @@ use Rattle.rules.specs.declared.Vector.{Vector}
 use Rattle.rules.specs.declared.Solid.{Solid}
 use Rattle.rules.specs.declared.Refused.{Refused}
 use Rattle.rules.specs.Solids.{permitted, look}
-use Rattle.rules.specs.Walk.{Stop}
 use Rattle.rules.specs.Pick.{judging}
 use Rattle.laws.specs.Tally.{yes, Gives}
 use Rattle.falls.specs.declared.Scene.{Scene}

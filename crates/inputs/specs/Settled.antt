@@ -1,5 +1,5 @@
 -- What `judge` ensures settles its answer: a refusal is made again of what it tells, and the scene is the inputs' own.
-use mathlib.Core.Path.{_≡_, refl, sym, ap, _∙_}
+use mathlib.Core.Path.{_≡_, refl, sym, ap}
 use mathlib.Core.Bool.{Bool}
 use mathlib.Core.List.{List}
 use Prim.Native.Nat.{ℕ}

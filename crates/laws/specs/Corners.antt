@@ -1,5 +1,5 @@
 -- The corners of a quick touch: each lies in the box where p and q do, since each of its parts is p's or q's; they are looked at in their order, until one is empty.
-use mathlib.Core.Path.{_≡_, refl, sym, _∙_}
+use mathlib.Core.Path.{_≡_, refl}
 use mathlib.Core.Logic.{_⊎_, inl, inr}
 use mathlib.Core.Bool.{Bool, true, false, not}
 use mathlib.Core.List.{List, [], _∷_}

@@ -20,7 +20,7 @@ use Rattle.rules.specs.Pick.{probe, answer}
 use Rattle.rules.specs.Touch.{nearer, touch, marked, touchOf}
 use Rattle.laws.specs.Says.{Says}
 use Rattle.laws.specs.Corners.{CornerEmpty, nth, corner-inside}
-use Rattle.laws.specs.Answers.{stepsOf, looksOf, foundOf, stopOf, AnswerSays, answer-says}
+use Rattle.laws.specs.Answers.{stepsOf, looksOf, stopOf, AnswerSays, answer-says}
 use Rattle.laws.specs.Touches.{NextTouch, TouchStop, TouchFound, touch-says}
 
 -- a touch without its mark

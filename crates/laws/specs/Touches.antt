@@ -1,5 +1,5 @@
 -- Every quick touch on every look, by the rules: at power 1 a question is one look, so a round is six and the looks are counted by the steps; what a refusal tells.
-use mathlib.Core.Path.{_≡_, refl, sym, ap, _∙_}
+use mathlib.Core.Path.{_≡_, refl, ap}
 use mathlib.Core.Logic.{_⊎_, inl, inr}
 use mathlib.Core.Bool.{Bool, true, false}
 use mathlib.Core.List.{List, [], _∷_, _++_}
@@ -16,19 +16,18 @@ use Rattle.rules.specs.declared.Triangle.{Triangle}
 use Rattle.rules.specs.declared.Pair.{Pair}
 use Rattle.rules.specs.declared.Choice.{Choice}
 use Rattle.rules.specs.declared.Choice.the-variants.{Nothing, Chosen}
-use Rattle.rules.specs.Vectors.{_⊕_, minus, lay}
+use Rattle.rules.specs.Vectors.{_⊕_, lay}
 use Rattle.rules.specs.Asked.{answered, refused}
-use Rattle.rules.specs.Walk.{Stop, stop, Axis, axis0, axis1, axis2, unit, units, pairs, way, step, keep, only, remaining, takesPart, noneLevel, choice, Probe, Found, lookAt, fallsAt, falls, corner, cornersFilled, allCorners, falling, round, walk, rounds, found}
+use Rattle.rules.specs.Walk.{Stop, stop, Axis, axis0, axis1, axis2, unit, units, pairs, way, step, keep, only, remaining, takesPart, noneLevel, choice, Probe, Found, fallsAt, falls, corner, allCorners, falling, round, walk, rounds, found}
 use Rattle.rules.specs.Pick.{isInside, probe}
 use Rattle.rules.specs.Touch.{nearer, touch}
-use Rattle.laws.specs.Tests.{Each}
 use Rattle.laws.specs.Parts.{scale-one}
-use Rattle.laws.specs.Says.{Says, Few, says-answer, says-refuse, says-weaker, says-both, says-bind, says-asked, says-map}
-use Rattle.laws.specs.Looks.{As, look-says, StoppedOf}
+use Rattle.laws.specs.Says.{Says, says-answer, says-refuse, says-weaker, says-both, says-bind, says-asked, says-map}
+use Rattle.laws.specs.Looks.{look-says, StoppedOf}
 use Rattle.laws.specs.Next.{Reached, TurnOf, turn-of}
 use Rattle.laws.specs.Walks.{WalkRule, walk-says}
 use Rattle.laws.specs.Corners.{FirstEmpty, CornerEmpty, nth, nth-most, corner-empty, corners-say}
-use Rattle.laws.specs.PickRule.{Passed, Faced, InputRule, EndRule, PickRule, touch-by-rule}
+use Rattle.laws.specs.PickRule.{Passed, PickRule, touch-by-rule}
 
 -- ---- no axis is level: all six pairs, and three axes remain
 pub all-take : only (takesPart noneLevel) pairs ≡ pairs

@@ -196,6 +196,12 @@ fn flatten_display(answer: Display) -> FlatDisplay
 
 // ---- the interface
 
+fn point(x: i32, y: i32, z: i32) -> Vector
+    ensures { λ r. ⌜ r ≡ vector x y z ⌝ }
+{
+    Vector { x: x, y: y, z: z }
+}
+
 #[no_mangle]
 pub extern "C" fn ulgenzhir_pick_wedge(
     a: i32,
@@ -216,11 +222,7 @@ pub extern "C" fn ulgenzhir_pick_wedge(
         c: c,
         h: h,
     };
-    let p = Vector {
-        x: px,
-        y: py,
-        z: pz,
-    };
+    let p = point(px, py, pz);
     flatten_pick(pick::pick_wedge(w, p, frame, reach))
 }
 
@@ -243,11 +245,7 @@ pub extern "C" fn ulgenzhir_pick_stack(
         height: height,
         depth: depth,
     };
-    let p = Vector {
-        x: px,
-        y: py,
-        z: pz,
-    };
+    let p = point(px, py, pz);
     flatten_pick(pick::pick_stack(k, bytes, p, frame, reach))
 }
 
@@ -271,12 +269,8 @@ pub extern "C" fn ulgenzhir_touch_wedge(
         c: c,
         h: h,
     };
-    let p = Vector {
-        x: px,
-        y: py,
-        z: pz,
-    };
-    flatten_touch(touch::touch_wedge(w, p, frame, reach))
+    let p = point(px, py, pz);
+    flatten_touch(pick::touch_wedge(w, p, frame, reach))
 }
 
 #[no_mangle]
@@ -298,12 +292,8 @@ pub extern "C" fn ulgenzhir_touch_stack(
         height: height,
         depth: depth,
     };
-    let p = Vector {
-        x: px,
-        y: py,
-        z: pz,
-    };
-    flatten_touch(touch::touch_stack(k, bytes, p, frame, reach))
+    let p = point(px, py, pz);
+    flatten_touch(pick::touch_stack(k, bytes, p, frame, reach))
 }
 
 #[no_mangle]

@@ -1,5 +1,5 @@
 -- The answer: what the inputs, the start, and then the rounds and the end make of it, of a pick and of a quick touch.
-use mathlib.Core.Path.{_≡_, refl, ap, subst, _∙_}
+use mathlib.Core.Path.{_≡_, refl, ap, _∙_}
 use mathlib.Core.Bool.{Bool, true, false}
 use mathlib.Core.List.{List, [], _∷_}
 use Prim.Native.Nat.{ℕ}
@@ -20,7 +20,7 @@ use Rattle.rules.specs.Asked.{Asked, _>>=_, _>>_}
 use Rattle.rules.specs.Walk.{Stop, powersFrom, powers, Probe, atPowers, Found, rounds, end}
 use Rattle.rules.specs.Pick.{probe, judging, pick}
 use Rattle.rules.specs.Touch.{nearer, touch}
-use Rattle.laws.specs.Tally.{Tally, Gives, Countable, then-yes, then-no}
+use Rattle.laws.specs.Tally.{Gives, Countable, then-yes, then-no}
 use Rattle.falls.specs.declared.Scene.{Scene}
 use Rattle.falls.specs.Scene.{probeOf}
 use Rattle.walk.specs.Walk.{walkQuestions}
@@ -33,7 +33,7 @@ use Rattle.inputs.specs.Inputs.{sceneOf, InputsJudged}
 use Rattle.inputs.specs.Facts.{judged-read, inputs-refused, inputs-good, scene-is, scene-ready}
 use Rattle.end.specs.End.{pickTally, WalkedToEnd}
 use Rattle.end.specs.Answers.{is-answer}
-use Rattle.pick.specs.Pick.{walkOf, Picked}
+use Rattle.pick.specs.Walk.{walkOf, Walked}
 
 pub begun-countable : {quick : Bool} {c : Probe} {p : Vector} {begun : Start} {level : Levels} {n : ℕ} → Started quick c p begun → begun ≡ Begun level n → Countable walkQuestions n
 begun-countable h e = omega (arith, h .few, ap startLooks e)
@@ -68,12 +68,12 @@ module _ {quick : Bool} {solid : Solid} {bytes : List ℕ} {p : Vector} {frame r
   h : InputsJudged quick solid bytes p frame reach fit
   h = judged-read fits-frame fits-reach read
 
-  -- what the walk gives is the answer
-  picked : {r : Pick} → Gives 0 (judging (permitted solid bytes) (look solid bytes) p frame reach >> behind quick (permitted solid bytes) (look solid bytes) p frame reach) (pickTally r) → Picked quick solid bytes p frame reach r
-  picked g = record { is = is-answer _ (rw (walk-is quick (permitted solid bytes) (look solid bytes) p frame reach) at g) }
+  -- what it gives is the answer
+  walked : {r : Pick} → Gives 0 (judging (permitted solid bytes) (look solid bytes) p frame reach >> behind quick (permitted solid bytes) (look solid bytes) p frame reach) (pickTally r) → Walked quick solid bytes p frame reach r
+  walked g = record { is = is-answer _ (rw (walk-is quick (permitted solid bytes) (look solid bytes) p frame reach) at g) }
 
-  pub picked-inputs : {r : Refused} → fit ≡ FitRefused r → Picked quick solid bytes p frame reach (IsRefused r)
-  picked-inputs {r} e = picked {r = IsRefused r} (then-no _ (inputs-refused h e))
+  pub walked-inputs : {r : Refused} → fit ≡ FitRefused r → Walked quick solid bytes p frame reach (IsRefused r)
+  walked-inputs {r} e = walked {r = IsRefused r} (then-no _ (inputs-refused h e))
 
   module _ {v : Scene} {begun : Start} (e : fit ≡ FitScene v) (g : Started quick (probeOf v bytes) p begun) where
     abbrev c : Probe
@@ -85,15 +85,18 @@ module _ {quick : Bool} {solid : Solid} {bytes : List ℕ} {p : Vector} {frame r
     started : {b : Start} → begun ≡ b → Gives 0 (startOf quick c p) (startTally b)
     started i = rw (← here) (rw i at (g .gives))
 
-    pub picked-start : {r : Refused} → begun ≡ StartRefused r → Picked quick solid bytes p frame reach (IsRefused r)
+    pub walked-start : {r : Refused} → begun ≡ StartRefused r → Walked quick solid bytes p frame reach (IsRefused r)
     unfolding behind
-    picked-start {r} i = picked {r = IsRefused r} (then-yes _ (inputs-good h e) (then-no _ (started i)))
+    walked-start {r} i = walked {r = IsRefused r} (then-yes _ (inputs-good h e) (then-no _ (started i)))
 
-    pub picked-end : {level : Levels} {n : ℕ} {r : Pick} → begun ≡ Begun level n → WalkedToEnd (probeOf v bytes) (v .reach) level n r → Picked quick solid bytes p frame reach r
+    pub walked-end : {level : Levels} {n : ℕ} {r : Pick} → begun ≡ Begun level n → WalkedToEnd (probeOf v bytes) (v .reach) level n r → Walked quick solid bytes p frame reach r
     unfolding behind
-    picked-end {level} {n} {r} i w =
+    walked-end {level} {n} {r} i w =
         let reached = ap (λ (s : Scene). s .reach) (scene-is h e) in
-        let walked : Gives n (rounds c (natAbs reach) level >>= end c (natAbs reach) level) (pickTally r) = rw (← here, ← reached) (w .gives) in
-        picked {r = r} (then-yes _ (inputs-good h e) (then-yes _ (started i) walked))
+        let ended : Gives n (rounds c (natAbs reach) level >>= end c (natAbs reach) level) (pickTally r) = rw (← here, ← reached) (w .gives) in
+        walked {r = r} (then-yes _ (inputs-good h e) (then-yes _ (started i) ended))
 
-pub ruleset picking = (picked-inputs, picked-start, picked-end)
+pub ruleset walking = (walked-inputs, walked-start, walked-end)
+
+pub walked-read : {quick : Bool} {solid : Solid} {bytes : List ℕ} {p : Vector} {frame reach : ℤ} {r : Pick} → SFits w32 frame → SFits w32 reach → Walked quick solid bytes p (toZ w32 (ofZ w32 frame)) (toZ w32 (ofZ w32 reach)) r → Walked quick solid bytes p frame reach r
+walked-read f g h = rw (toZ-ofZ f, toZ-ofZ g) at h

@@ -1,5 +1,4 @@
--- What the pick promises.
-pub mod Pick
-pub mod Facts
+-- What the pick and the quick touch promise.
+pub mod Walk
 pub mod Promises
 pub mod Excluded

@@ -17,7 +17,7 @@ use Rattle.rules.specs.Touch.{touch, marked, touchOf}
 use Rattle.slope.specs.Stair.{row, rows, slices, stairBytes}
 use Rattle.slope.specs.Demands.{Inputs, apexOf, OnSlope}
 use Rattle.slope.specs.Cases.{on-wedge, on-line, on-stair, not-empty}
-use Rattle.slope.specs.Touches.{touchAt, OnLevel, Guesses, TouchRefuses, WrongGuess, TouchNotEmpty}
+use Rattle.slope.specs.Touches.{touchAt, Guesses, TouchRefuses, WrongGuess, TouchNotEmpty}
 
 -- ---- the outcome of a touch
 data Outcome : Type 0 where

@@ -2,15 +2,15 @@
 -- less than 1 above the plane, so power 1 alone answers whether n·u < 0. From there the touch is the ideal walk of n, as a pick is.
 use mathlib.Core.Path.{_≡_, refl, sym, ap, subst, _∙_}
 use mathlib.Core.Logic.{_⊎_, inl, inr}
-use mathlib.Core.Bool.{Bool, true, false, not, false≢true}
-use mathlib.Core.List.{List, [], _∷_, _++_}
-use Prim.Native.Nat.{ℕ, zero, suc, _+_, _*_, _-_, _≤_}
+use mathlib.Core.Bool.{true, false, false≢true}
+use mathlib.Core.List.{List, [], _∷_}
+use Prim.Native.Nat.{ℕ, zero, suc, _+_, _-_, _≤_}
 use native.Mathlib.Omega.{arith}
 use lib.Dec.{T, T-not, leb, lit≤}
 use lib.ListN.{length}
 use lib.IntN.{ℤ, pos, negsuc, negℤ, natAbs, _+ℤ_}
 use lib.Signed.{_≤ℤ_, _<ℤ_}
-use Rattle.integers.specs.Order.{parts, linear, atom, goal, fact}
+use Rattle.integers.specs.Order.{linear, atom, goal, fact}
 use Rattle.rules.specs.declared.Vector.{Vector}
 use Rattle.rules.specs.declared.Look.the-variants.{Filled, Empty}
 use Rattle.rules.specs.declared.Levels.{Levels}
@@ -18,15 +18,13 @@ use Rattle.rules.specs.declared.Triangle.{Triangle}
 use Rattle.rules.specs.declared.Accepted.{Accepted as AcceptedPick}
 use Rattle.rules.specs.declared.Refused.{Refused as RefusedPick}
 use Rattle.rules.specs.declared.Pick.{Pick}
-use Rattle.rules.specs.declared.Pick.the-variants.{Accepted, Refused}
 use Rattle.rules.specs.declared.Touch.{Touch}
 use Rattle.rules.specs.declared.Touch.the-variants.{Guess, Refused as TouchRefused}
-use Rattle.rules.specs.Vectors.{_⊕_, minus, dot, lay, size}
+use Rattle.rules.specs.Vectors.{minus, dot, lay, size}
 use Rattle.rules.specs.Solids.{permitted, look}
-use Rattle.rules.specs.Walk.{Stop, stop, signs, Axis, axis0, axis1, axis2, unit, units, pairs, level, noneLevel, only, remaining, takesPart, levelled, normal, Probe, Found, laid, corner, cornersFilled, allCorners, rounds, found}
+use Rattle.rules.specs.Walk.{Stop, stop, signs, Axis, axis0, axis1, axis2, unit, units, pairs, level, noneLevel, only, remaining, takesPart, levelled, normal, Probe, Found, corner, allCorners, rounds, found}
 use Rattle.rules.specs.Pick.{isInside}
-use Rattle.rules.specs.Touch.{nearer, touch, touchOf}
-use Rattle.laws.specs.Tests.{is-true}
+use Rattle.rules.specs.Touch.{touch, touchOf}
 use Rattle.laws.specs.Parts.{part, dot-sum, dot-minus, dot-unit}
 use Rattle.laws.specs.Levels.{isZero, is-zero, above-zero, levelsOf, levels-of, levels-eq}
 use Rattle.laws.specs.Flat.{raised}
@@ -36,18 +34,18 @@ use Rattle.laws.specs.Looks.{StoppedOf}
 use Rattle.laws.specs.Next.{earlier, Reached}
 use Rattle.laws.specs.Boxes.{outside-box}
 use Rattle.laws.specs.PickRule.{Passed, PickRule, touch-by-rule}
-use Rattle.laws.specs.Corners.{FirstEmpty, CornerEmpty, nth, corner-inside, corner-empty, corners-say}
+use Rattle.laws.specs.Corners.{FirstEmpty, nth, corner-inside, corner-empty, corners-say}
 use Rattle.laws.specs.Touches.{all-take, three-remain, NextTouch, next-touch}
 use Rattle.laws.specs.Touched.{unmarked, marked-says}
 use Rattle.laws.specs.Answers.{foundOf, stopOf, AnswerSays}
 use Rattle.laws.specs.Theorems.{guess-looks}
-use Rattle.slope.specs.Demands.{Inputs, signsOf, apexOf, probeAt, pickAt, OnSlope, Same, ofWedge}
+use Rattle.slope.specs.Demands.{Inputs, signsOf, apexOf, probeAt, OnSlope, ofWedge}
 use Rattle.slope.specs.Falls.{Near}
 use Rattle.slope.specs.Ideal.{ideal-steps, idealOf}
 use Rattle.slope.specs.Picks.{upward, level-is, below, above, end-normal, end-fits, rounds-ideal, good-inputs}
 use Rattle.slope.specs.Wedges.{multiple-slope}
 use Rattle.slope.specs.Proved.{is-whole, same-whole}
-use Rattle.slope.specs.Touches.{touchAt, nearAt, OnLevel, NoZero, GuessWith, TouchOutside, TouchLevel, TouchedAs, QuickTouch}
+use Rattle.slope.specs.Touches.{touchAt, nearAt, OnLevel, NoZero, TouchOutside, TouchLevel, TouchedAs, QuickTouch}
 
 -- ---- numbers: t - z is below t, or not
 lower : (t z : ℤ) → (t +ℤ negℤ z) <ℤ t → pos 1 ≤ℤ z

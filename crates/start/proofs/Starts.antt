@@ -5,8 +5,8 @@ use Prim.Native.Nat.{ℕ, _≤_}
 use native.Mathlib.Omega.{arith}
 use Rattle.rules.specs.declared.Vector.{Vector}
 use Rattle.rules.specs.declared.Refused.{Refused}
-use Rattle.rules.specs.Walk.{noneLevel, Probe, start, allCorners, quickStart}
-use Rattle.laws.specs.Tally.{yes, Gives, Countable, then-yes, then-no, at-once}
+use Rattle.rules.specs.Walk.{Probe, start, allCorners, quickStart}
+use Rattle.laws.specs.Tally.{Gives, Countable, then-yes, then-no, at-once}
 use Rattle.facing.specs.declared.Cleared.{Cleared}
 use Rattle.facing.specs.declared.Cleared.the-variants.{Clear, Refused as ClearRefused}
 use Rattle.facing.specs.Facing.{clearedLooks, FacingAsked, CornersAsked}

@@ -1,9 +1,9 @@
--- `touch::mark` meets its contract: case by case.
+-- `pick::mark` meets its contract: case by case.
 use mathlib.Core.Path.{sym, ap}
 use borrow.Author.Needs.{needs}
 use Rattle.rules.specs.Touch.{marked}
-use Rattle.touch.proofs.mark.Statement.{statement}
-use Rattle.touch.proofs.mark.Tie as tie
+use Rattle.pick.proofs.mark.Statement.{statement}
+use Rattle.pick.proofs.mark.Tie as tie
 
 guessed : tie.Need-returns
 unfolding marked

@@ -1,4 +1,4 @@
--- The pick: its answer is the definition's, and so is a quick touch's before it is marked.
+-- The walk of a pick or of a quick touch: its answer is the definition's, not yet marked.
 use mathlib.Core.Path.{_≡_}
 use mathlib.Core.Bool.{Bool, true, false}
 use mathlib.Core.List.{List}
@@ -19,5 +19,5 @@ abbrev pub walkOf : Bool → Bool → (Vector → Look) → Vector → ℤ → �
 walkOf true = touch
 walkOf false = pick
 
-pub record Picked (quick : Bool) (solid : Solid) (bytes : List ℕ) (p : Vector) (frame reach : ℤ) (r : Pick) : Type 0 where
+pub record Walked (quick : Bool) (solid : Solid) (bytes : List ℕ) (p : Vector) (frame reach : ℤ) (r : Pick) : Type 0 where
   pub is : r ≡ answer (walkOf quick (permitted solid bytes) (look solid bytes) p frame reach)

@@ -1,2 +1,0 @@
--- What the quick touch promises leaves no choice.
-pub mod Promises
