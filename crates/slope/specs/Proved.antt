@@ -72,10 +72,10 @@ module _ (n : Vector) (t : ℤ) (i : Inputs) (o : OnSlope n t i) where
   stay : (k : Axis) → T (level (levelsOf n) k) → vectorOf (laid (signsOf i) m) k ≡ lay (signsOf i) (unit k)
   stay k h = laid-of (signsOf i) m k ∙ ap (lay (signsOf i)) (flat k h k .own refl)
 
-  products : Products (levelsOf n) n (laid (signsOf i) m)
+  pub products : Products (levelsOf n) n (laid (signsOf i) (ideally n t i o .0))
   products = subst (λ u. Products (levelsOf n) u (laid (signsOf i) m)) (end-normal n t i o) (laid-products (signs-are (natAbs (i .frame))) flat one)
 
-  generate : (v : Vector) → dot n v ≡ pos 0 → Combines (generators (levelsOf n) (laid (signsOf i) m)) v
+  pub generate : (v : Vector) → dot n v ≡ pos 0 → Combines (generators (levelsOf n) (laid (signsOf i) (ideally n t i o .0))) v
   generate v h = laid-generated (signs-are (natAbs (i .frame))) flat one v (rw (end-normal n t i o) h)
 
   few-enough : fewest n t i o ≤ 2 + powersOf i * (6 * size n + 6)

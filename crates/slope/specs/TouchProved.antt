@@ -22,12 +22,13 @@ use Rattle.rules.specs.declared.Touch.{Touch}
 use Rattle.rules.specs.declared.Touch.the-variants.{Guess, Refused as TouchRefused}
 use Rattle.rules.specs.Vectors.{minus, dot, lay, size}
 use Rattle.rules.specs.Solids.{permitted, look}
-use Rattle.rules.specs.Walk.{Stop, stop, signs, Axis, axis0, axis1, axis2, unit, units, pairs, level, noneLevel, only, remaining, takesPart, levelled, normal, Probe, Found, corner, allCorners, rounds, found}
+use Rattle.rules.specs.Walk.{Stop, stop, signs, Axis, axis0, axis1, axis2, unit, units, pairs, level, noneLevel, only, remaining, takesPart, levelled, normal, Probe, Found, laid, corner, allCorners, rounds, found}
 use Rattle.rules.specs.Pick.{isInside}
 use Rattle.rules.specs.Touch.{touch, touchOf}
 use Rattle.laws.specs.Parts.{part, dot-sum, dot-minus, dot-unit}
 use Rattle.laws.specs.Levels.{isZero, is-zero, above-zero, levelsOf, levels-of, levels-eq}
 use Rattle.laws.specs.Flat.{raised}
+use Rattle.laws.specs.Generators.{generators-in}
 use Rattle.laws.specs.Frames.{lay-dot}
 use Rattle.laws.specs.Says.{Says, says-weaker, says-map}
 use Rattle.laws.specs.Looks.{StoppedOf}
@@ -44,7 +45,7 @@ use Rattle.slope.specs.Falls.{Near}
 use Rattle.slope.specs.Ideal.{ideal-steps, idealOf}
 use Rattle.slope.specs.Picks.{upward, level-is, below, above, end-normal, end-fits, rounds-ideal, good-inputs}
 use Rattle.slope.specs.Wedges.{multiple-slope}
-use Rattle.slope.specs.Proved.{is-whole, same-whole}
+use Rattle.slope.specs.Proved.{is-whole, products, generate, same-whole}
 use Rattle.slope.specs.Touches.{touchAt, nearAt, OnLevel, NoZero, TouchOutside, TouchLevel, TouchedAs, QuickTouch}
 
 -- ---- numbers: t - z is below t, or not
@@ -198,11 +199,14 @@ module _ (n : Vector) (t : ℤ) (i : Inputs) (o : OnLevel n t i) where
     where
       go : (x : Touch) → touchAt i ≡ x → Said (unmarked x) → TouchedAs n i x
       go (Guess a) e h =
+          let triangle : a .triangle ≡ laid (signsOf i) (idealOf (signsOf i) n .0) = ap (λ (f : Found). f .triangle) (h .1 .1) in
           let steps : a .steps ≡ idealOf (signsOf i) n .1 = ap (λ (f : Found). f .steps) (h .1 .1) in
           record {
             noZero = no-zero (h .1 .0);
             isNormal = ap (λ (f : Found). f .normal) (h .1 .1) ∙ end-normal n t i onSlope;
-            isTriangle = ap (λ (f : Found). f .triangle) (h .1 .1);
+            isTriangle = triangle;
+            inPlane = rw triangle (generators-in v n _ (products n t i onSlope));
+            generated = rw triangle (generate n t i onSlope);
             stepsAre = steps;
             fewSteps = omega (arith, steps, three (h .1 .0), ideal-steps (raised v N) v (size n - length (remaining v)) 0 units);
             looksAre = guess-looks (i .solid) (i .bytes) (i .start) (i .frame) (i .reach) a e;

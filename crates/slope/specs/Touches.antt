@@ -21,7 +21,10 @@ use Rattle.rules.specs.Vectors.{vector, dot, size}
 use Rattle.rules.specs.Solids.{box, inBox}
 use Rattle.rules.specs.Walk.{Axis, unit, laid, Probe, corner}
 use Rattle.rules.specs.Touch.{nearer, touchOf, WedgeTouchPromise, StackTouchPromise}
+use Rattle.laws.specs.Tests.{Each}
 use Rattle.laws.specs.Parts.{part}
+use Rattle.laws.specs.Levels.{levelsOf}
+use Rattle.laws.specs.Generators.{Combines, generators}
 use Rattle.laws.specs.Next.{earlier}
 use Rattle.laws.specs.Corners.{nth}
 use Rattle.laws.specs.Answers.{stopOf}
@@ -46,11 +49,13 @@ abbrev pub NoZero : Vector → Type 0
 NoZero n = (k : Axis) → part k n ≡ pos 0 → ⊥
 
 -- ---- what it asks of one touch
--- accepted with normal n and the triangle of n's ideal walk, laid in; the walk's steps, at most w - 3, and six looks for each round
+-- accepted with normal n and the triangle of n's ideal walk, laid in, whose sides generate the plane; the walk's steps, at most w - 3, and six looks for each round
 pub record GuessWith (n : Vector) (i : Inputs) (a : AcceptedPick) : Type 0 where
   pub noZero : NoZero n
   pub isNormal : a .normal ≡ n
   pub isTriangle : a .triangle ≡ laid (signsOf i) (idealOf (signsOf i) n .0)
+  pub inPlane : Each (λ g. dot n g ≡ pos 0) (generators (levelsOf n) (a .triangle))
+  pub generated : (v : Vector) → dot n v ≡ pos 0 → Combines (generators (levelsOf n) (a .triangle)) v
   pub stepsAre : a .steps ≡ idealOf (signsOf i) n .1
   pub fewSteps : a .steps ≤ size n - 3
   pub looksAre : a .looks ≡ 5 + 6 * suc (a .steps)
