@@ -116,11 +116,11 @@ typedef struct {
  * apex less each unit vector, must be filled. All else is as in a pick.
  *
  * A guess is exact, the slope's normal and the triangle of every accepted pick
- * on it in that frame, where the apex is on the plane's first empty level (on
- * a wedge ax + by + cz = h there) of a slope with no part against the frame,
- * no common divisor and sizes that add to at most reach. Elsewhere it may be
- * wrong. And a touch may be refused where a pick is not: on a face level along
- * an axis that axis's corner is empty, so no touch is accepted there.
+ * on it, where the apex is on the plane's first empty level (on a wedge
+ * ax + by + cz = h there) of a slope with no part against the frame, no common
+ * divisor and sizes that add to at most reach. Elsewhere it may be wrong. And a
+ * touch may be refused where a pick is not: on a face level along an axis that
+ * axis's corner is empty, so no touch is accepted there.
  */
 ulgenzhir_touch ulgenzhir_touch_wedge(int32_t a, int32_t b, int32_t c, int32_t h,
                                       int32_t px, int32_t py, int32_t pz,

@@ -83,8 +83,9 @@ fn on_first_empty_level(parts: Point, frame: i64) {
     let reach = parts.iter().sum::<i64>().max(1);
     match touch(&wedge, start, frame, reach) {
         Ok(Guess(touched)) => {
-            let Record { normal, vectors, apex, .. } = pick(&wedge, start, frame, reach).unwrap();
-            assert_eq!((touched.normal, touched.vectors, touched.apex), (normal, vectors, apex));
+            assert!(!parts.contains(&0), "a level face was accepted");
+            let picked = pick(&wedge, start, frame, reach).unwrap();
+            assert_eq!(touched, Record { looks: touched.looks, ..picked });
         }
         Err(refusal) if parts == [0; 3] => assert_eq!(refusal.number, 5),
         Err(refusal) => {

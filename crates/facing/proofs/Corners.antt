@@ -1,8 +1,9 @@
 -- The corners, one by one: a filled one goes on to the next, one that isn't is refusal 11, and after a refusal none is asked.
 use mathlib.Core.Path.{_≡_, refl, sym, ap, _∙_}
 use mathlib.Core.List.{[]}
-use Prim.Native.Nat.{ℕ, _+_}
+use Prim.Native.Nat.{ℕ, _+_, _≤_}
 use native.Mathlib.Omega.{arith}
+use lib.Dec.{lit≤}
 use mir.Syntax.{w32}
 use mir.Val.{Fits}
 use Rattle.rules.specs.declared.Vector.{Vector}
@@ -41,8 +42,10 @@ module _ {c : Probe} {e place : Vector} {before : Cleared} {n : ℕ} {a : Look} 
   unfolding cornersFilled
   corner-filled j = record { is = λ es. rw i (then-yes _ (asked-yes 0 (filled-there (c .look) n (corner c e) (seen-there c at h j))) (then-yes _ (ensured (stop 11 (corner c e) 0) refl) (record { is = refl })) .is); few = omega (arith, ap clearedLooks i) }
 
-pub one-more-fits : {before : Cleared} {n : ℕ} → before ≡ Clear n → Countable 1 (clearedLooks before) → Fits w32 (n + 1)
-one-more-fits i h = record { fits = omega (arith, h, ap clearedLooks i) }
+pub more-fits : {before : Cleared} {n k : ℕ} → before ≡ Clear n → Countable 1 (clearedLooks before) → k ≤ 512 → Fits w32 (n + k)
+more-fits i h l = record { fits = omega (arith, h, l, ap clearedLooks i) }
+
+pub ruleset counting = (more-fits, lit≤)
 
 pub ruleset asking-corner = (corner-after, corner-outside, corner-empty, corner-filled)
 

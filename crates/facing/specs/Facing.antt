@@ -1,4 +1,4 @@
--- Beside the finger: what the looks at p and q tell, and what one corner more, and all three, leave of the corners.
+-- What faces the finger: what the looks at p and q tell, and what one corner more, and all three, leave of the corners.
 use mathlib.Core.Path.{_≡_}
 use mathlib.Core.List.{List, [], _∷_}
 use Prim.Native.Nat.{ℕ, _+_, _≤_}

@@ -1,4 +1,4 @@
-// Beside the finger: p and q, and of a quick touch the corners.
+// What faces the finger: p and q, and of a quick touch the corners.
 ghost use mathlib.Core.Path.{_≡_};
 ghost use Rattle.rules.specs.Vectors.{minus, lay};
 ghost use Rattle.laws.specs.Bounds.{Bounded};

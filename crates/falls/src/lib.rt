@@ -7,7 +7,7 @@ use rules::Look;
 use rules::Solid;
 use rules::Vector;
 
-// What every question of one pick is about; the solid's bytes are lent beside it. Powers go up to the span, steps are allowed by the reach.
+// What every question of one pick or touch is about; the solid's bytes are lent beside it. Powers go up to the span, steps are allowed by the reach.
 pub struct Scene {
     pub solid: Solid,
     pub apex: Vector,

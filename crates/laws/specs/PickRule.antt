@@ -32,7 +32,7 @@ module _ {c : Probe} {R : ℕ} {v : Levels} {Begun : List Vector → Type 0} {En
   unfolding end
   end-says e t s k = says-ensure _ _ _ (λ n. rw (append-nil s) (rule .ten e (t ++ s) k n)) (λ n. says-answer (rw (append-nil s) (rule .ends e (t ++ s) k n)))
 
-  pub end-by-rule : (t : List Vector) → Begun t → Says (λ f s. Finds f (t ++ s)) (λ r s. Stops r (t ++ s)) (rounds c R v >>= end c R v)
+  end-by-rule : (t : List Vector) → Begun t → Says (λ f s. Finds f (t ++ s)) (λ r s. Stops r (t ++ s)) (rounds c R v >>= end c R v)
   end-by-rule t h = says-bind {G = λ r s. Stops r (t ++ s)} _ _ (rule .roundsSay t h) (λ r s x. x) (λ e s x. end-says e t s x)
 
 -- a look at a voxel that was judged inside
@@ -81,7 +81,7 @@ module _ (ok : Bool) (look : Vector → Look) (p : Vector) (frame reach : ℤ) w
     pub toTheEnd : Faced → (v : Levels) → EndRule (atPowers ls (probe look p frame reach)) (natAbs reach) v (Level v) (Ended v) Finds Stops
 
   module _ {Stops : Stop → List Vector → Type 0} (rule : InputRule Stops) where
-    pub judging-says : Says (λ _ t. Passed × (t ≡ [])) Stops (judging ok look p frame reach)
+    judging-says : Says (λ _ t. Passed × (t ≡ [])) Stops (judging ok look p frame reach)
     unfolding judging placing
     judging-says =
         says-ensure _ _ _ (rule .one) (λ reached.
@@ -91,7 +91,7 @@ module _ (ok : Bool) (look : Vector → Look) (p : Vector) (frame reach : ℤ) w
         says-test _ _ (rule .fourApex) (λ apex. (record { permittedReach = reached; permittedFrame = framed; permittedSolid = permitted; startInside = start; apexInside = apex }, refl))))))
 
     -- whatever the powers are
-    pub facing-says : (ls : List ℕ) → Passed → Says (λ _ t. Faced × (t ≡ p ∷ probe look p frame reach .apex ∷ [])) Stops (facing (atPowers ls (probe look p frame reach)) p)
+    facing-says : (ls : List ℕ) → Passed → Says (λ _ t. Faced × (t ≡ p ∷ q ∷ [])) Stops (facing (atPowers ls c) p)
     unfolding facing
     facing-says ls h =
         says-bind {G = Stops} _ _ (looked-inside c {G = Stops} p (h .startInside)) (λ r t k. k) (λ f t a. rw (a .1)

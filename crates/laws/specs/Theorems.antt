@@ -1,4 +1,4 @@
--- What holds on every solid, wedge or stack, for every pick: the statements. The proofs are in the modules beside.
+-- What holds on every solid, wedge or stack, for every pick and every quick touch: the statements. The proofs are in the modules beside.
 use mathlib.Core.Path.{_≡_, refl, sym, ap, subst, _∙_}
 use mathlib.Core.Bool.{false, not}
 use mathlib.Core.List.{List, []}
@@ -264,8 +264,8 @@ module _ (solid : Solid) (bytes : List ℕ) (p : Vector) (frame reach : ℤ) whe
   pub refused-outside : (r : RefusedPick) → pickOf solid bytes p frame reach ≡ Refused r → r .number ≡ 8 → T (not (inBox (box solid) (r .place)))
   refused-outside r is e = outside-box solid bytes (r .place) (refused-next r is e .outside)
 
-  -- no refusal of a pick is above 10
-  pub refused-number : (r : RefusedPick) → pickOf solid bytes p frame reach ≡ Refused r → r .number ≤ 10
+  -- the refusals of a pick are 1 to 10
+  pub refused-number : (r : RefusedPick) → pickOf solid bytes p frame reach ≡ Refused r → (1 ≤ r .number) × (r .number ≤ 10)
   refused-number r is = refused-tells solid bytes p frame reach r is .known
 
   -- ---- the quick touch, with the corner of each axis: q less its unit vector, laid in
@@ -283,12 +283,15 @@ module _ (solid : Solid) (bytes : List ℕ) (p : Vector) (frame reach : ℤ) whe
   pub touch-looks-at-most : looksOf (unmarked (touchOf solid bytes p frame reach)) ≤ 5 + 6 * suc (stepsOf (unmarked (touchOf solid bytes p frame reach)))
   touch-looks-at-most = Touched.few-looks solid bytes p frame reach
 
+  pub touch-looks-at-most-1529 : looksOf (unmarked (touchOf solid bytes p frame reach)) ≤ 1529
+  touch-looks-at-most-1529 = Touched.most-looks solid bytes p frame reach
+
   pub guess-looks : (a : AcceptedPick) → touchOf solid bytes p frame reach ≡ Guess a → a .looks ≡ 5 + 6 * suc (a .steps)
   guess-looks = Touched.guess-looks solid bytes p frame reach
 
   module _ (r : RefusedPick) (is : touchOf solid bytes p frame reach ≡ TouchRefused r) where
-    -- 7 isn't given
-    pub touch-number : (r .number ≤ 11) × (r .number ≡ 7 → ⊥)
+    -- 1 to 11, and 7 isn't given
+    pub touch-number : (1 ≤ r .number) × (r .number ≤ 11) × (r .number ≡ 7 → ⊥)
     touch-number = Touched.refused-known solid bytes p frame reach r is
 
     -- 8 is given at the way of a pair, from q, that was to be looked at next and lies outside the box: never at a corner
@@ -302,6 +305,6 @@ module _ (solid : Solid) (bytes : List ℕ) (p : Vector) (frame reach : ℤ) whe
     pub touch-corner : r .number ≡ 11 → (h : CornerEmpty d (stopOf r)) × (r .looks ≡ 2 + nth (h .axis))
     touch-corner = Touched.refused-corner solid bytes p frame reach r is
 
--- ---- on a stack no reach above 64 is accepted
+-- ---- on a stack no pick of a reach above 64 is accepted
 pub stack-reach : (stack : Stack) (bytes : List ℕ) (p : Vector) (frame reach : ℤ) (a : AcceptedPick) → pickOf (IsStack stack) bytes p frame reach ≡ Accepted a → reach ≤ℤ pos 64
 stack-reach = Stacks.stack-reach

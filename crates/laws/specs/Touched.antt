@@ -1,5 +1,6 @@
 -- The touch's answer on both solids: what is said of the question holds of its two cases, and the corners of a touch that was not refused before lie in the box.
 use mathlib.Core.Path.{_≡_, refl, subst}
+use mathlib.Core.Logic.{_⊎_, inl, inr}
 use mathlib.Core.List.{List}
 use Prim.Native.Nat.{ℕ, suc, _+_, _*_, _-_, _≤_}
 use native.Mathlib.Omega.{arith}
@@ -61,6 +62,17 @@ module _ (solid : Solid) (bytes : List ℕ) (p : Vector) (frame reach : ℤ) whe
       go (Accepted a) h = omega (arith, h .1 .counted, h .2)
       go (Refused r) h = omega (arith, h .1 .few, h .2)
 
+  pub most-looks : looksOf (unmarked (touchOf solid bytes p frame reach)) ≤ 1529
+  most-looks = go (unmarked (touchOf solid bytes p frame reach)) tells
+    where
+      by-steps : (r : RefusedPick) (t : List Vector) → TouchStop c R (stopOf r) t → (r .steps ≡ 0) ⊎ (R ≤ 256) → length t ≤ 1529
+      by-steps r t h (inl e) = omega (arith, h .few, e)
+      by-steps r t h (inr e) = omega (arith, h .few, h .fewSteps, e)
+
+      go : (x : Pick) → AnswerSays (TouchFound R) (TouchStop c R) x → looksOf x ≤ 1529
+      go (Accepted a) h = omega (arith, h .1 .counted, h .1 .fewSteps, h .1 .small, h .2)
+      go (Refused r) h = omega (arith, by-steps r (h .0) (h .1) (h .1 .small), h .2)
+
   pub guess-looks : (a : AcceptedPick) → touchOf solid bytes p frame reach ≡ Guess a → a .looks ≡ 5 + 6 * suc (a .steps)
   guess-looks a e = let h = subst (λ (t : Touch). AnswerSays (TouchFound R) (TouchStop c R) (unmarked t)) e tells in omega (arith, h .1 .counted, h .2)
 
@@ -68,7 +80,7 @@ module _ (solid : Solid) (bytes : List ℕ) (p : Vector) (frame reach : ℤ) whe
     refused : (t : List Vector) × TouchStop c R (stopOf r) t × (r .looks ≡ length t)
     refused = subst (λ (t : Touch). AnswerSays (TouchFound R) (TouchStop c R) (unmarked t)) is tells
 
-    pub refused-known : (r .number ≤ 11) × (r .number ≡ 7 → ⊥)
+    pub refused-known : (1 ≤ r .number) × (r .number ≤ 11) × (r .number ≡ 7 → ⊥)
     refused-known = refused .1 .known
 
     pub refused-next : r .number ≡ 8 → NextTouch (nearer (probe (look solid bytes) p frame reach)) (stopOf r)

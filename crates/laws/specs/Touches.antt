@@ -21,6 +21,7 @@ use Rattle.rules.specs.Asked.{answered, refused}
 use Rattle.rules.specs.Walk.{Stop, stop, Axis, axis0, axis1, axis2, unit, units, pairs, way, step, keep, only, remaining, takesPart, noneLevel, choice, Probe, Found, fallsAt, falls, corner, allCorners, falling, round, walk, rounds, found}
 use Rattle.rules.specs.Pick.{isInside, probe}
 use Rattle.rules.specs.Touch.{nearer, touch}
+use Rattle.range.specs.Ranges.{between-naturals}
 use Rattle.laws.specs.Parts.{scale-one}
 use Rattle.laws.specs.Says.{Says, says-answer, says-refuse, says-weaker, says-both, says-bind, says-asked, says-map}
 use Rattle.laws.specs.Looks.{look-says, StoppedOf}
@@ -112,14 +113,16 @@ next-touch b n m p h o = go (o .stopped .beyond .isPower)
 -- a refusal, with the voxels looked at
 pub record TouchStop (c : Probe) (R : ℕ) (r : Stop) (t : List Vector) : Type 0 where
   pub fewSteps : r .steps ≤ R - 3
+  pub small : (r .steps ≡ 0) ⊎ (R ≤ 256)
   pub few : length t ≤ 5 + 6 * suc (r .steps)
-  pub known : (r .number ≤ 11) × (r .number ≡ 7 → ⊥)
+  pub known : (1 ≤ r .number) × (r .number ≤ 11) × (r .number ≡ 7 → ⊥)
   pub next : r .number ≡ 8 → NextTouch c r
   pub corner : r .number ≡ 11 → (h : CornerEmpty c r) × (length t ≡ 2 + nth (h .axis))
 
 -- what was found
 pub record TouchFound (R : ℕ) (f : Found) (t : List Vector) : Type 0 where
   pub fewSteps : f .steps ≤ R - 3
+  pub small : R ≤ 256
   pub counted : length t ≡ 5 + 6 * suc (f .steps)
 
 module _ (ok : Bool) (look : Vector → Look) (p : Vector) (frame reach : ℤ) where
@@ -133,8 +136,15 @@ module _ (ok : Bool) (look : Vector → Look) (p : Vector) (frame reach : ℤ) w
   Stops = TouchStop (nearer (probe look p frame reach)) (natAbs reach)
 
   -- before the first step, and neither 7, 8 nor 11
-  at-once : (number : ℕ) (a : Vector) (t : List Vector) → number ≤ 6 → length t ≤ 11 → Stops (stop number a 0) t
-  at-once number a t h l = record { fewSteps = omega arith; few = omega (arith, l); known = (omega (arith, h), λ e. absurd (omega (arith, h, e))); next = λ e. absurd (omega (arith, h, e)); corner = λ e. absurd (omega (arith, h, e)) }
+  at-once : (number : ℕ) (a : Vector) (t : List Vector) → (1 ≤ number) × (number ≤ 6) → length t ≤ 11 → Stops (stop number a 0) t
+  at-once number a t h l = record {
+    fewSteps = omega arith;
+    small = inl refl;
+    few = omega (arith, l);
+    known = (h .0, omega (arith, h .1), λ e. absurd (omega (arith, h .1, e)));
+    next = λ e. absurd (omega (arith, h .1, e));
+    corner = λ e. absurd (omega (arith, h .1, e));
+  }
 
   record Kept (left r n : ℕ) (m : Triangle) : Type 0 where
     isLeft : r ≡ left
@@ -159,18 +169,19 @@ module _ (ok : Bool) (look : Vector → Look) (p : Vector) (frame reach : ℤ) w
       (says-weaker _ (λ e t h. (h .0 .holds, omega (arith, h .1 .1))) (λ r t h. (h .0 .holds, omega (arith, h .1 .1)))
       (says-both _ (walk-says d pairs every-walk (R - 3) (R - 3) 0 units (record { isLeft = refl; fewSteps = omega arith; reached = refl })) (walk-counted (probe look p frame reach) (R - 3) 0 units)))
 
-  walk-stop : (r : Stop) (t s : List Vector) → length t ≡ 5 → StopsWalk r × (length s ≤ 6 * suc (r .steps)) → Stops r (t ++ s)
-  walk-stop r t s five h = record {
+  walk-stop : R ≤ 256 → (r : Stop) (t s : List Vector) → length t ≡ 5 → StopsWalk r × (length s ≤ 6 * suc (r .steps)) → Stops r (t ++ s)
+  walk-stop small r t s five h = record {
     fewSteps = h .0 .0;
+    small = inr small;
     few = omega (arith, five, h .1, length-append t s);
     known = go (h .0 .1);
     next = h .0 .2;
     corner = λ e. absurd (not-eleven (h .0 .1) e);
   }
     where
-      go : (r .number ≡ 8) ⊎ (r .number ≡ 9) → (r .number ≤ 11) × (r .number ≡ 7 → ⊥)
-      go (inl e) = (omega (arith, e), λ k. absurd (omega (arith, e, k)))
-      go (inr e) = (omega (arith, e), λ k. absurd (omega (arith, e, k)))
+      go : (r .number ≡ 8) ⊎ (r .number ≡ 9) → (1 ≤ r .number) × (r .number ≤ 11) × (r .number ≡ 7 → ⊥)
+      go (inl e) = (omega (arith, e), omega (arith, e), λ k. absurd (omega (arith, e, k)))
+      go (inr e) = (omega (arith, e), omega (arith, e), λ k. absurd (omega (arith, e, k)))
 
       not-eleven : (r .number ≡ 8) ⊎ (r .number ≡ 9) → r .number ≡ 11 → ⊥
       not-eleven (inl e) k = omega (arith, e, k)
@@ -188,25 +199,28 @@ module _ (ok : Bool) (look : Vector → Look) (p : Vector) (frame reach : ℤ) w
     unfolding allCorners found
     every-touch = record {
       inputs = record {
-        one = λ _. at-once 1 _ [] (omega arith) (omega arith);
-        two = λ _. at-once 2 _ [] (omega arith) (omega arith);
-        three = λ _. at-once 3 _ [] (omega arith) (omega arith);
-        fourStart = λ _. at-once 4 _ [] (omega arith) (omega arith);
-        fourApex = λ _. at-once 4 _ [] (omega arith) (omega arith);
-        five = λ h _. at-once 5 _ (p ∷ []) (omega arith) (omega arith);
-        six = λ h _ _. at-once 6 _ (p ∷ d .apex ∷ []) (omega arith) (omega arith);
+        one = λ _. at-once 1 _ [] (omega arith, omega arith) (omega arith);
+        two = λ _. at-once 2 _ [] (omega arith, omega arith) (omega arith);
+        three = λ _. at-once 3 _ [] (omega arith, omega arith) (omega arith);
+        fourStart = λ _. at-once 4 _ [] (omega arith, omega arith) (omega arith);
+        fourApex = λ _. at-once 4 _ [] (omega arith, omega arith) (omega arith);
+        five = λ h _. at-once 5 _ (p ∷ []) (omega arith, omega arith) (omega arith);
+        six = λ h _ _. at-once 6 _ (p ∷ d .apex ∷ []) (omega arith, omega arith) (omega arith);
       };
       beginSays = λ h.
           says-map _ (λ _. noneLevel)
           (says-weaker _ (λ _ t k. k .1) empty (corners-say d (unit axis0 ∷ unit axis1 ∷ unit axis2 ∷ []) (corners-in (h .passed) axis0, (corners-in (h .passed) axis1, (corners-in (h .passed) axis2, tt)))))
           (λ _ t k. (refl, rw k));
       toTheEnd = λ h v. record {
-        roundsSay = λ t k. rw (k .0) (says-weaker _ (λ e s j. (j .0, omega (arith, j .1, k .1, length-append t s))) (λ r s j. walk-stop r t s (k .1) j) rounds-say);
-        ten = λ e t k n. record { fewSteps = k .0; few = omega (arith, k .1); known = (omega arith, λ z. absurd (omega (arith, z))); next = λ z. absurd (omega (arith, z)); corner = λ z. absurd (omega (arith, z)) };
-        ends = λ e t k n. record { fewSteps = k .0; counted = k .1 };
+        roundsSay = λ t k. rw (k .0) (says-weaker _ (λ e s j. (j .0, omega (arith, j .1, k .1, length-append t s))) (λ r s j. walk-stop (small (h .passed)) r t s (k .1) j) rounds-say);
+        ten = λ e t k n. record { fewSteps = k .0; small = inr (small (h .passed)); few = omega (arith, k .1); known = (omega arith, omega arith, λ z. absurd (omega (arith, z))); next = λ z. absurd (omega (arith, z)); corner = λ z. absurd (omega (arith, z)) };
+        ends = λ e t k n. record { fewSteps = k .0; small = small (h .passed); counted = k .1 };
       };
     }
       where
+        small : Passed ok look p frame reach → R ≤ 256
+        small h = between-naturals 1 256 reach (h .permittedReach) .1
+
         corners-in : Passed ok look p frame reach → (k : Axis) → T (isInside (look (corner d (unit k))))
         corners-in h = inside (h .startInside) (h .apexInside)
 
@@ -216,8 +230,9 @@ module _ (ok : Bool) (look : Vector → Look) (p : Vector) (frame reach : ℤ) w
             let is = z .0 .is in
             record {
               fewSteps = rw is (omega arith);
+              small = inl (ap (λ (r : Stop). r .steps) is);
               few = omega (arith, z .1, nth-most (z .0 .axis), ap (λ (r : Stop). r .steps) is);
-              known = rw is (omega arith, λ e. absurd (omega (arith, e)));
+              known = rw is (omega arith, omega arith, λ e. absurd (omega (arith, e)));
               next = λ e. absurd (omega (arith, e, ap (λ (r : Stop). r .number) is));
               corner = λ _. (z .0, omega (arith, z .1));
             }

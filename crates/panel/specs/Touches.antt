@@ -3,7 +3,7 @@
 use mathlib.Core.Path.{_≡_}
 use mathlib.Core.Logic.{_⊎_}
 use mathlib.Core.List.{List}
-use Prim.Native.Nat.{ℕ}
+use Prim.Native.Nat.{ℕ, _≤_}
 use lib.IntN.{ℤ}
 use Rattle.rules.specs.declared.Vector.{Vector}
 use Rattle.rules.specs.declared.Wedge.{Wedge}
@@ -42,13 +42,19 @@ pub data TouchCalled (i : Inputs) (r : FlatTouch) : Type 0 where
   wedgeTouched : (wedge : Wedge) (p : Vector) (frame reach : ℤ) → i ≡ ofWedge wedge p frame reach → TouchedWedge wedge p frame reach r → TouchCalled i r
   stackTouched : (stack : Stack) (bytes : List ℕ) (p : Vector) (frame reach : ℤ) → i ≡ ofStack stack bytes p frame reach → TouchedStack stack bytes p frame reach r → TouchCalled i r
 
+-- guess is 1 when number is 0, else 0
+abbrev pub Marked : FlatTouch → Type 0
+Marked r = ((r .number ≡ 0) × (r .guess ≡ 1)) ⊎ ((1 ≤ r .number) × (r .guess ≡ 0))
+
 pub record HostQuickTouch : Type 0 where
+  -- every touch
+  pub marked : (i : Inputs) (r : FlatTouch) → TouchCalled i r → Marked r
   pub wedgeTouch : (g : ℤ) (n : Vector) (wedge : Wedge) (p : Vector) (frame reach : ℤ) → OnWedgeLevel g n wedge p frame reach
       → (r : FlatTouch) → TouchedWedge wedge p frame reach r → FlatTouched n (ofWedge wedge p frame reach) r
   pub stackTouch : (n : Vector) (t : ℤ) (stack : Stack) (bytes : List ℕ) (p : Vector) (frame reach : ℤ) → OnLevel n t (ofStack stack bytes p frame reach)
       → (r : FlatTouch) → TouchedStack stack bytes p frame reach r → FlatTouched n (ofStack stack bytes p frame reach) r
   -- an accepted touch and an accepted pick, of wedges or of stacks
-  pub asLongWalk : (n : Vector) (t u : ℤ) (i j : Inputs) → OnLevel n t i → OnSlope n u j → i .frame ≡ j .frame
+  pub asLongWalk : (n : Vector) (t u : ℤ) (i j : Inputs) → OnLevel n t i → OnSlope n u j
       → (a : FlatTouch) (b : FlatPick) → TouchCalled i a → Called j b → a .number ≡ 0 → b .number ≡ 0 → FlatSame (withoutGuess a) b
-  pub twoTouches : (n : Vector) (t u : ℤ) (i j : Inputs) → OnLevel n t i → OnLevel n u j → i .frame ≡ j .frame
+  pub twoTouches : (n : Vector) (t u : ℤ) (i j : Inputs) → OnLevel n t i → OnLevel n u j
       → (a b : FlatTouch) → TouchCalled i a → TouchCalled j b → a .number ≡ 0 → b .number ≡ 0 → FlatSame (withoutGuess a) (withoutGuess b)

@@ -19,7 +19,7 @@ use Rattle.rules.specs.declared.Choice.the-variants.{Nothing, Chosen}
 use Rattle.rules.specs.Vectors.{vector, _⊕_, _⊖_, minus, scale, cross, sphere, lay, size, unit0, unit1, unit2}
 use Rattle.rules.specs.Asked.{Asked, answered, refused, _>>=_, _>>_}
 
--- a pick's refusal: its number, the place returned and the steps so far
+-- the refusal of a pick, or of a quick touch: its number, the place returned and the steps so far
 pub record Stop : Type 0 where
   pub number : ℕ
   pub place : Vector
@@ -47,7 +47,7 @@ seen Filled p = answered true (p ∷ [])
 seen Empty p = answered false (p ∷ [])
 seen Outside p = refused p []
 
--- a point outside the box ends the pick with refusal 8
+-- a point outside the box ends it with refusal 8
 unfoldable pub asked : {A : Type 0} → ℕ → Asked Vector A → Asked Stop A
 asked steps (answered a t) = answered a t
 asked steps (refused p t) = refused (stop 8 p steps) t

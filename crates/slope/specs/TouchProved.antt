@@ -22,14 +22,14 @@ use Rattle.rules.specs.declared.Touch.{Touch}
 use Rattle.rules.specs.declared.Touch.the-variants.{Guess, Refused as TouchRefused}
 use Rattle.rules.specs.Vectors.{minus, dot, lay, size}
 use Rattle.rules.specs.Solids.{permitted, look}
-use Rattle.rules.specs.Walk.{Stop, stop, signs, Axis, axis0, axis1, axis2, unit, units, pairs, level, noneLevel, only, remaining, takesPart, levelled, normal, Probe, Found, laid, corner, allCorners, rounds, found}
+use Rattle.rules.specs.Walk.{Stop, stop, Axis, axis0, axis1, axis2, unit, units, pairs, level, noneLevel, only, remaining, takesPart, levelled, normal, Probe, Found, laid, corner, allCorners, rounds, found}
 use Rattle.rules.specs.Pick.{isInside}
 use Rattle.rules.specs.Touch.{touch, touchOf}
-use Rattle.laws.specs.Parts.{part, dot-sum, dot-minus, dot-unit}
+use Rattle.laws.specs.Parts.{NonNegative, Positive, part, parts-by, dot-sum, dot-minus, dot-unit}
 use Rattle.laws.specs.Levels.{isZero, is-zero, above-zero, levelsOf, levels-of, levels-eq}
 use Rattle.laws.specs.Flat.{raised}
 use Rattle.laws.specs.Generators.{generators-in}
-use Rattle.laws.specs.Frames.{lay-dot}
+use Rattle.laws.specs.Frames.{Signs, signs-are, lay-lay, lay-dot, lay-part-high, same-frame}
 use Rattle.laws.specs.Says.{Says, says-weaker, says-map}
 use Rattle.laws.specs.Looks.{StoppedOf}
 use Rattle.laws.specs.Next.{earlier, Reached}
@@ -179,7 +179,7 @@ module _ (n : Vector) (t : ℤ) (i : Inputs) (o : OnLevel n t i) where
   said = marked-says _ _ (touch (permitted (i .solid) (i .bytes)) (look (i .solid) (i .bytes)) (i .start) (i .frame) (i .reach)) (touch-by-rule _ _ _ _ _ slope-touch)
 
   -- ---- what is wanted
-  pub guess-whole : (a : AcceptedPick) → touchAt i ≡ Guess a → foundOf a ≡ found (nearAt i) (levelsOf n) (idealOf (signsOf i) n)
+  guess-whole : (a : AcceptedPick) → touchAt i ≡ Guess a → foundOf a ≡ found (nearAt i) (levelsOf n) (idealOf (signsOf i) n)
   guess-whole a e = subst (λ (x : Touch). Said (unmarked x)) e said .1 .1
 
   no-zero : noneLevel ≡ v → NoZero n
@@ -233,15 +233,29 @@ module _ (n : Vector) (t : ℤ) (i : Inputs) (o : OnLevel n t i) where
       go (TouchRefused r) e (inl h) = absurd (h .noZero k z)
       go (TouchRefused r) e (inr h) = (r, e, h)
 
-same-signs : (i j : Inputs) → i .frame ≡ j .frame → signsOf i ≡ signsOf j
-same-signs i j e = ap (λ (f : ℤ). signs (natAbs f)) e
+-- a vector with no zero part and none against either frame has one frame
+one-frame : (n : Vector) (t u : ℤ) (i j : Inputs) → OnSlope n t i → OnSlope n u j → NoZero n → signsOf i ≡ signsOf j
+one-frame n t u i j o p none =
+    let g = signs-are (natAbs (i .frame)) in let h = signs-are (natAbs (j .frame)) in
+    same-frame (signsOf i) (signsOf j) _ _ g h (positive g (o .direction .signed)) (positive h (p .direction .signed)) (lay-lay (signsOf i) n g ∙ sym (lay-lay (signsOf j) n h)) .0
+  where
+    not-zero : (z : ℤ) → (z ≡ pos 0 → ⊥) → isZero z ≡ false
+    not-zero (pos zero) h = absurd (h refl)
+    not-zero (pos (suc k)) h = refl
+    not-zero (negsuc k) h = refl
+
+    positive : {s : Vector} → Signs s → NonNegative (lay s n) → Positive (lay s n)
+    positive {s} g h = parts-by (λ z. pos 1 ≤ℤ z) (lay s n) (λ k. lay-part-high s n g h k (not-zero (part k n) (none k)))
+
+no-zero-guess : (n : Vector) (t : ℤ) (i : Inputs) → OnLevel n t i → (a : AcceptedPick) → touchAt i ≡ Guess a → NoZero n
+no-zero-guess n t i o a e = subst (TouchedAs n i) e (one-touch n t i o) .noZero
 
 pub quick-touch : QuickTouch
 quick-touch = record {
   oneTouch = one-touch;
   eleven = eleven;
-  asLongWalk = λ n t u i j o p e a b x y. same-whole n (nearAt i) (probeAt j) (same-signs i j e) a b (guess-whole n t i o a x) (is-whole n u j p b y);
-  twoTouches = λ n t u i j o p e a b x y. same-whole n (nearAt i) (nearAt j) (same-signs i j e) a b (guess-whole n t i o a x) (guess-whole n u j p b y);
+  asLongWalk = λ n t u i j o p a b x y. same-whole n (nearAt i) (probeAt j) (one-frame n t u i j (o .onSlope) p (no-zero-guess n t i o a x)) a b (guess-whole n t i o a x) (is-whole n u j p b y);
+  twoTouches = λ n t u i j o p a b x y. same-whole n (nearAt i) (nearAt j) (one-frame n t u i j (o .onSlope) (p .onSlope) (no-zero-guess n t i o a x)) a b (guess-whole n t i o a x) (guess-whole n u j p b y);
   wedgeTouch = λ g n wedge p frame reach o r h.
       rw (h .is) (one-touch n _ _ (record { onSlope = multiple-slope g n wedge p frame reach (o .onWedge) (record { t = dot n (apexOf (ofWedge wedge p frame reach)); enough = o .above; least = o .first }); firstLevel = refl }));
   stackTouch = λ n t stack bytes p frame reach o r h. rw (h .is) (one-touch n t _ o);

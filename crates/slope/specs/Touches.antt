@@ -93,9 +93,9 @@ pub record QuickTouch : Type 0 where
   pub oneTouch : (n : Vector) (t : ℤ) (i : Inputs) → OnLevel n t i → TouchedAs n i (touchAt i)
   -- 11 exactly where a component is 0
   pub eleven : (n : Vector) (t : ℤ) (i : Inputs) → OnLevel n t i → (k : Axis) → part k n ≡ pos 0 → (r : RefusedPick) × (touchAt i ≡ TouchRefused r) × TouchLevel n i r
-  -- every accepted long walk on a slope of n in that frame: any solid, start, reach and offset
-  pub asLongWalk : (n : Vector) (t u : ℤ) (i j : Inputs) → OnLevel n t i → OnSlope n u j → i .frame ≡ j .frame → (a b : AcceptedPick) → touchAt i ≡ Guess a → pickAt j ≡ Accepted b → Same a b
-  pub twoTouches : (n : Vector) (t u : ℤ) (i j : Inputs) → OnLevel n t i → OnLevel n u j → i .frame ≡ j .frame → (a b : AcceptedPick) → touchAt i ≡ Guess a → touchAt j ≡ Guess b → Same a b
+  -- every accepted long walk on a slope of n: any solid, start, reach and offset. n has no zero part where a touch is accepted, so it has one frame
+  pub asLongWalk : (n : Vector) (t u : ℤ) (i j : Inputs) → OnLevel n t i → OnSlope n u j → (a b : AcceptedPick) → touchAt i ≡ Guess a → pickAt j ≡ Accepted b → Same a b
+  pub twoTouches : (n : Vector) (t u : ℤ) (i j : Inputs) → OnLevel n t i → OnLevel n u j → (a b : AcceptedPick) → touchAt i ≡ Guess a → touchAt j ≡ Guess b → Same a b
   -- of what the entry points promise
   pub wedgeTouch : (g : ℤ) (n : Vector) (wedge : Wedge) (p : Vector) (frame reach : ℤ) → OnWedgeLevel g n wedge p frame reach
       → (r : Touch) → WedgeTouchPromise wedge p frame reach r → TouchedAs n (ofWedge wedge p frame reach) r
