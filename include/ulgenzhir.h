@@ -16,7 +16,7 @@
  *     same call, and no other thread touches it, or writes one that is only
  *     read, during the call.
  *
- * Numbers. 0 is success. Of a pick, in the order they are judged:
+ * Numbers. 0 is success. Of a pick or a touch, in the order they are judged:
  *    1  reach outside 1 to 256                            place 0 0 0
  *    2  frame outside 0 to 7                              place 0 0 0
  *    3  wedge number or stack size out of range,
@@ -27,11 +27,14 @@
  *    7  minus an axis's unit vector does not fall, but
  *       the unit vector does                              apex less that vector
  *       or all three axes are level                       apex less axis 0's
+ *   11  a corner is not filled: apex less a unit vector
+ *       (lowest axis first)                               that corner
  *    8  a voxel to be looked at is outside the box        that point
  *    9  the steps allowed are done and a pair still
  *       falls                                             the apex
  *   10  the sizes of the normal add to more than reach    the apex
- * An axis is level if neither its unit vector nor minus it falls. The steps
+ * 7 is never given by a touch, 11 only by one. An axis is level if neither its
+ * unit vector nor minus it falls; a touch asks for none and has none. The steps
  * allowed are reach less the number of axes that are not level, and none if
  * that is below zero.
  * Of reading a stack, front to back:
@@ -93,6 +96,43 @@ ulgenzhir_pick ulgenzhir_pick_stack(int32_t width, int32_t height, int32_t depth
                                     const uint8_t *bytes, size_t len,
                                     int32_t px, int32_t py, int32_t pz,
                                     int32_t frame, int32_t reach);
+
+/*
+ * number 0: accepted, and guess is 1: an accepted touch is always a guess.
+ * Refused: guess is 0. Otherwise as ulgenzhir_pick, with no level axis.
+ */
+typedef struct {
+    uint32_t number;
+    uint32_t guess;
+    ulgenzhir_point place;
+    uint32_t steps, looks;
+    ulgenzhir_point normal, m0, m1, m2, apex;
+} ulgenzhir_touch;
+
+/*
+ * The quick touch, for shading under a moving finger: a walk with fewer looks.
+ * A vector falls only if the voxel one such vector from the apex is filled,
+ * whatever the reach. The axes are not asked; instead the three corners, the
+ * apex less each unit vector, must be filled. All else is as in a pick.
+ *
+ * A guess is exact, the slope's normal and the triangle of every accepted pick
+ * on it, where the apex is on the plane's first empty level (on a wedge
+ * ax + by + cz = h there) of a slope with no part against the frame, no common
+ * divisor and sizes that add to at most reach. Elsewhere it may be wrong. And a
+ * touch may be refused where a pick is not: on a face level along an axis that
+ * axis's corner is empty, so no touch is accepted there.
+ */
+ulgenzhir_touch ulgenzhir_touch_wedge(int32_t a, int32_t b, int32_t c, int32_t h,
+                                      int32_t px, int32_t py, int32_t pz,
+                                      int32_t frame, int32_t reach);
+
+/*
+ * The same on a stack.
+ */
+ulgenzhir_touch ulgenzhir_touch_stack(int32_t width, int32_t height, int32_t depth,
+                                      const uint8_t *bytes, size_t len,
+                                      int32_t px, int32_t py, int32_t pz,
+                                      int32_t frame, int32_t reach);
 
 /*
  * number 0: sizes set, value 0. Refused: value is the number returned, sizes 0.

@@ -109,26 +109,46 @@ static void put_pick(ulgenzhir_pick answer)
     put_point(answer.apex);
 }
 
+/* The mark, then all else as a pick's. */
+static void put_touch(ulgenzhir_touch answer)
+{
+    ulgenzhir_pick rest = {
+        answer.number, answer.place, answer.steps, answer.looks, answer.normal,
+        answer.m0, answer.m1, answer.m2, answer.apex
+    };
+    put(answer.guess);
+    put_pick(rest);
+}
+
 static void take_ints(int32_t *ints, int count)
 {
     for (int i = 0; i < count; i++)
         ints[i] = (int32_t)take();
 }
 
-static void pick_wedge(void)
+/* A touch, or else a pick. */
+static void on_wedge(int touched)
 {
     int32_t n[9];
     take_ints(n, 9);
-    put_pick(ulgenzhir_pick_wedge(n[0], n[1], n[2], n[3], n[4], n[5], n[6], n[7], n[8]));
+    if (touched)
+        put_touch(ulgenzhir_touch_wedge(n[0], n[1], n[2], n[3], n[4], n[5], n[6], n[7], n[8]));
+    else
+        put_pick(ulgenzhir_pick_wedge(n[0], n[1], n[2], n[3], n[4], n[5], n[6], n[7], n[8]));
 }
 
-static void pick_stack(void)
+static void on_stack(int touched)
 {
     int32_t n[8];
     take_ints(n, 8);
     const uint8_t *sent = next;
     uint32_t len = take_bytes(given);
-    put_pick(ulgenzhir_pick_stack(n[0], n[1], n[2], given, len, n[3], n[4], n[5], n[6], n[7]));
+    if (touched)
+        put_touch(ulgenzhir_touch_stack(
+            n[0], n[1], n[2], given, len, n[3], n[4], n[5], n[6], n[7]));
+    else
+        put_pick(ulgenzhir_pick_stack(
+            n[0], n[1], n[2], given, len, n[3], n[4], n[5], n[6], n[7]));
     clear(given, sent);
 }
 
@@ -181,8 +201,10 @@ static void display(void)
 static void call(void)
 {
     switch (take()) {
-    case 'w': pick_wedge(); return;
-    case 's': pick_stack(); return;
+    case 'w': on_wedge(0); return;
+    case 'W': on_wedge(1); return;
+    case 's': on_stack(0); return;
+    case 'S': on_stack(1); return;
     case 'r': read_p4(); return;
     case 'o': write_p4(); return;
     case 'd': display(); return;

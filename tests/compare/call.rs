@@ -1,12 +1,13 @@
 //! One call of an entry point: how it is sent, what the second program answers, and what came back.
 
-use crate::answers::{Lit, Pick, Point, Read, Written};
+use crate::answers::{Lit, Pick, Point, Read, Touch, Written};
 use crate::chance::Chance;
 use crate::flat;
 use second::p4;
 use second::pick::pick;
-use second::session::pick_of;
-use second::solid::{Sizes, Stack};
+use second::session::asked_by;
+use second::solid::{Sizes, Solid, Stack};
+use second::touch::touch;
 
 /// A lent buffer in the middle of a larger one, so that a write beside it shows.
 #[derive(Clone)]
@@ -29,7 +30,39 @@ impl Lent {
     }
 }
 
-/// What a pick on a stack is asked.
+/// Which walk is asked for.
+#[derive(Clone, Copy)]
+pub enum Walk {
+    Pick,
+    Touch,
+}
+
+impl Walk {
+    /// What the second program answers.
+    pub fn second<S: Solid>(self, solid: &S, start: [i64; 3], frame: i64, reach: i64) -> Answer {
+        match self {
+            Walk::Pick => Answer::Pick(flat::pick(pick(solid, start, frame, reach))),
+            Walk::Touch => Answer::Touch(flat::touch(touch(solid, start, frame, reach))),
+        }
+    }
+
+    /// The bridge's letter for it, from a pick's.
+    fn letter(self, pick: u8) -> u8 {
+        match self {
+            Walk::Pick => pick,
+            Walk::Touch => pick.to_ascii_uppercase(),
+        }
+    }
+
+    fn told(self) -> &'static str {
+        match self {
+            Walk::Pick => "pick",
+            Walk::Touch => "touch",
+        }
+    }
+}
+
+/// What a walk on a stack is asked.
 #[derive(Clone)]
 pub struct OnStack {
     pub sizes: [i32; 3],
@@ -42,8 +75,8 @@ pub struct OnStack {
 #[derive(Clone)]
 pub enum Call {
     /// a b c h, p, frame, R.
-    Wedge([i32; 9]),
-    Stack(OnStack),
+    Wedge(Walk, [i32; 9]),
+    Stack(Walk, OnStack),
     /// The input is the front of a longer text, so that a reader that runs on meets something.
     Read {
         text: Vec<u8>,
@@ -62,6 +95,7 @@ pub enum Call {
 #[derive(PartialEq)]
 pub enum Answer {
     Pick(Pick),
+    Touch(Touch),
     Read(Read, Vec<u8>),
     Written(Written, Vec<u8>),
     /// The floats' bits, so that -0 is not 0.
@@ -72,19 +106,27 @@ impl Answer {
     pub fn number(&self) -> u32 {
         match self {
             Answer::Pick(pick) => pick.number,
+            Answer::Touch(touch) => touch.number,
             Answer::Read(read, _) => read.number,
             Answer::Written(written, _) => written.number,
             Answer::Lit(number, _) => *number,
         }
     }
 
-    /// How many axes are level in an accepted pick: the parts of its normal that are 0.
-    pub fn level_axes(&self) -> usize {
+    /// What is counted beside the number: how many axes are level in an accepted pick (the parts of
+    /// its normal that are 0), an accepted touch, and the axis of a corner that is not filled.
+    pub fn mark(&self) -> Option<&'static str> {
         match self {
             Answer::Pick(Pick { number: 0, normal: Point { x, y, z }, .. }) => {
-                [x, y, z].iter().filter(|&&&part| part == 0).count()
+                let level = [x, y, z].iter().filter(|&&&part| part == 0).count();
+                [None, Some("level1"), Some("level2")][level]
             }
-            _ => 0,
+            Answer::Touch(Touch { number: 0, .. }) => Some("guess"),
+            // The third look, after p and q, is at axis 0's.
+            Answer::Touch(Touch { number: 11, looks, .. }) => {
+                Some(["11x", "11y", "11z"][*looks as usize - 3])
+            }
+            _ => None,
         }
     }
 
@@ -92,6 +134,7 @@ impl Answer {
     pub fn told(&self, other: &Answer) -> String {
         match (self, other) {
             (Answer::Pick(pick), _) => format!("{pick:?}"),
+            (Answer::Touch(touch), _) => format!("{touch:?}"),
             (Answer::Read(read, ours), Answer::Read(_, theirs)) => {
                 format!("{read:?} {}", difference(ours, theirs))
             }
@@ -118,19 +161,31 @@ fn sizes_of([width, height, depth]: [i32; 3]) -> Sizes {
 }
 
 impl Call {
+    /// The same with a touch asked for in a pick's place.
+    pub fn as_touch(self) -> Call {
+        match self {
+            Call::Wedge(_, line) => Call::Wedge(Walk::Touch, line),
+            Call::Stack(_, on) => Call::Stack(Walk::Touch, on),
+            other => other,
+        }
+    }
+
     /// Whether it reads a file with a comment at once after the first magic.
-    pub fn is_touched(&self) -> bool {
+    pub fn has_touching_comment(&self) -> bool {
         matches!(self, Call::Read { text, len, .. } if text[..*len].starts_with(b"P4#"))
     }
 
     /// What the second program answers.
     pub fn second(&self) -> Answer {
         match self {
-            Call::Wedge(line) => Answer::Pick(flat::pick(pick_of(line.map(i64::from)))),
-            Call::Stack(on) => {
+            Call::Wedge(walk, line) => {
+                asked_by(line.map(i64::from), |wedge, start, frame, reach| {
+                    walk.second(wedge, start, frame, reach)
+                })
+            }
+            Call::Stack(walk, on) => {
                 let stack = Stack { sizes: sizes_of(on.sizes), bytes: &on.bytes };
-                let start = on.start.map(i64::from);
-                Answer::Pick(flat::pick(pick(&stack, start, on.frame.into(), on.reach.into())))
+                walk.second(&stack, on.start.map(i64::from), on.frame.into(), on.reach.into())
             }
             Call::Read { text, len, lent } => {
                 let mut lent = lent.clone();
@@ -152,8 +207,8 @@ impl Call {
     /// About how many bytes it takes to hold.
     pub fn size(&self) -> usize {
         100 + match self {
-            Call::Wedge(_) | Call::Display(_) => 0,
-            Call::Stack(on) => on.bytes.len(),
+            Call::Wedge(..) | Call::Display(_) => 0,
+            Call::Stack(_, on) => on.bytes.len(),
             Call::Read { text, lent, .. } => text.len() + lent.whole.len(),
             Call::Write { bytes, lent, .. } => bytes.len() + lent.whole.len(),
         }
@@ -162,10 +217,10 @@ impl Call {
     /// As the bridge takes it.
     pub fn send(&self, batch: &mut Batch) {
         match self {
-            Call::Wedge(line) => batch.ints(b'w', line),
-            Call::Stack(on) => {
+            Call::Wedge(walk, line) => batch.ints(walk.letter(b'w'), line),
+            Call::Stack(walk, on) => {
                 let ([w, h, d], [x, y, z]) = (on.sizes, on.start);
-                batch.ints(b's', &[w, h, d, x, y, z, on.frame, on.reach]);
+                batch.ints(walk.letter(b's'), &[w, h, d, x, y, z, on.frame, on.reach]);
                 batch.bytes(&on.bytes);
             }
             Call::Read { text, len, lent } => {
@@ -185,7 +240,7 @@ impl Call {
     /// What the library answered.
     pub fn receive(&self, reply: &mut Reply) -> Answer {
         match self {
-            Call::Wedge(_) | Call::Stack(_) => Answer::Pick(reply.pick()),
+            Call::Wedge(walk, _) | Call::Stack(walk, _) => reply.walked(*walk),
             Call::Read { lent, .. } => {
                 let (number, value) = (reply.take(), reply.take_long());
                 let (width, height, depth) = (reply.take(), reply.take(), reply.take());
@@ -206,10 +261,14 @@ impl Call {
     pub fn told(&self) -> String {
         let front = |bytes: &[u8]| bytes[..bytes.len().min(300)].escape_ascii().to_string();
         match self {
-            Call::Wedge(line) => format!("wedge {}", line.map(|n| n.to_string()).join(" ")),
-            Call::Stack(OnStack { sizes, bytes, start, frame, reach }) => {
-                let len = bytes.len();
-                format!("stack {sizes:?} of {len} bytes, start {start:?}, {frame}, {reach}")
+            Call::Wedge(walk, line) => {
+                format!("{} on wedge {}", walk.told(), line.map(|n| n.to_string()).join(" "))
+            }
+            Call::Stack(walk, OnStack { sizes, bytes, start, frame, reach }) => {
+                let (walk, len) = (walk.told(), bytes.len());
+                format!(
+                    "{walk} on stack {sizes:?} of {len} bytes, start {start:?}, {frame}, {reach}"
+                )
             }
             Call::Read { text, len, lent } => {
                 format!("read of {len} bytes into {}: {}", lent.len, front(&text[..*len]))
@@ -286,6 +345,13 @@ impl Reply {
     fn point(&mut self) -> Point {
         let [x, y, z] = [self.take(), self.take(), self.take()].map(|part| part as i32);
         Point { x, y, z }
+    }
+
+    fn walked(&mut self, walk: Walk) -> Answer {
+        match walk {
+            Walk::Pick => Answer::Pick(self.pick()),
+            Walk::Touch => Answer::Touch(Touch::of(self.take(), self.pick())),
+        }
     }
 
     /// In the order of the header's struct.

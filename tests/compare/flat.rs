@@ -1,9 +1,11 @@
 //! The second program's answers in the header's structs.
 
 use crate::answers;
-use second::pick::{Pick, Record, Refusal};
+use second::pick::Pick;
 use second::point::Point;
 use second::solid::Sizes;
+use second::touch::{Guess, Touch};
+use second::walk::{Record, Refusal};
 use second::{display, p4};
 
 fn point(place: Point) -> answers::Point {
@@ -27,6 +29,11 @@ pub fn pick(answer: Pick) -> answers::Pick {
             answers::Pick { number, place: point(place), steps, looks, ..Default::default() }
         }
     }
+}
+
+pub fn touch(answer: Touch) -> answers::Touch {
+    let guess = u32::from(answer.is_ok());
+    answers::Touch::of(guess, pick(answer.map(|Guess(record)| record)))
 }
 
 pub fn read(answer: Result<Sizes, p4::Refusal>) -> answers::Read {

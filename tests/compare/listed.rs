@@ -1,14 +1,16 @@
-//! The listed cases as calls. (That the second program gives the listed values is checked first.)
+//! The listed cases as calls, each pick also as a touch and each touch also as a pick. (That the
+//! second program gives the listed values is checked first.)
 
-use crate::call::{Call, Lent};
+use crate::call::{Call, Lent, Walk};
 use crate::chance::Chance;
 use crate::stacks::on_stack;
-use second::listed::{sum_above_reach_stack, DISPLAYS, LINES, READS, STACKS, WRITES};
+use second::listed::{sum_above_reach_stack, DISPLAYS, LINES, READS, STACKS, TOUCHES, WRITES};
 use second::session::numbers;
 
 pub fn calls(chance: &mut Chance, _: u64) -> Vec<Call> {
-    let mut calls = lines();
-    calls.extend(stacks());
+    let picks: Vec<Call> = lines().into_iter().chain(stacks()).collect();
+    let mut calls: Vec<Call> = picks.iter().cloned().map(Call::as_touch).collect();
+    calls.extend(picks);
     calls.extend(reads(chance));
     calls.extend(writes(chance));
     calls.extend(DISPLAYS.iter().map(|(n, _)| Call::Display(n.map(|part| part as i32))));
@@ -17,8 +19,9 @@ pub fn calls(chance: &mut Chance, _: u64) -> Vec<Call> {
 
 /// Those that have the form of a line; the others are in the sessions.
 fn lines() -> Vec<Call> {
-    let nine = LINES.iter().filter_map(|(input, _)| numbers(input.as_bytes()));
-    nine.map(|nine| Call::Wedge(nine.map(|number| number as i32))).collect()
+    let inputs = LINES.iter().chain(TOUCHES).map(|(input, _)| input.as_bytes());
+    let nine = inputs.filter_map(numbers);
+    nine.map(|nine| Call::Wedge(Walk::Pick, nine.map(|number| number as i32))).collect()
 }
 
 fn stacks() -> Vec<Call> {
@@ -26,11 +29,11 @@ fn stacks() -> Vec<Call> {
     for case in STACKS {
         let (_, bytes) = case.stack();
         let asked = on_stack([case.side; 3], bytes, case.start, 0, case.reach);
-        calls.push(Call::Stack(asked));
+        calls.push(Call::Stack(Walk::Pick, asked));
     }
     for reach in [5, 6] {
         let (_, bytes) = sum_above_reach_stack();
-        calls.push(Call::Stack(on_stack([64; 3], bytes, [31; 3], 0, reach)));
+        calls.push(Call::Stack(Walk::Pick, on_stack([64; 3], bytes, [31; 3], 0, reach)));
     }
     calls
 }

@@ -23,6 +23,7 @@ mod session_texts;
 mod sessions;
 mod stacks;
 mod tally;
+mod touches;
 #[path = "../shared/wedge_lines.rs"]
 mod wedge_lines;
 mod wedges;
@@ -55,11 +56,15 @@ const fn kind(name: &'static str, cases: u64, make: Make, meets: &'static str) -
 }
 
 const KINDS: &[Kind] = &[
-    kind("listed", 1, Calls(listed::calls), "0 1 2 3 4 5 6 7 8 9 10 21 22 23 24 25 27 30"),
+    kind("listed", 1, Calls(listed::calls), "0 guess 1 2 3 4 5 6 7 8 9 10 11 21 22 23 24 25 27 30"),
     kind("wedge_heights", wedges::SMALL_NORMALS, Calls(wedges::heights), "0 4 8 level1 level2"),
     kind("wedge", 600_000, Calls(wedges::any), "0 1 2 3 4 5 6 7 8 9 10 level1 level2"),
     kind("stack", 80_000, Calls(stacks::any), "0 1 2 3 4 5 6 7 8 9 10 level1 level2"),
     kind("stack_unforeseen", 100_000, Calls(stacks::unforeseen), "0 7 8 9 10 level1 level2"),
+    kind("touch_heights", wedges::SMALL_NORMALS, Calls(touches::heights), "guess 4 8 11x 11y 11z"),
+    kind("touch_wedge", 300_000, Calls(touches::wedge), "guess 1 2 3 4 5 6 8 9 10 11x 11y 11z"),
+    kind("touch_stack", 20_000, Calls(touches::stack), "guess 1 2 3 4 5 6 8 9 10 11x 11y 11z"),
+    kind("touch_unforeseen", 30_000, Calls(touches::unforeseen), "guess 8 9 10 11x 11y 11z"),
     kind("read", 300_000, Calls(reads::any), "0 21 22 23 24 25 27 touching"),
     kind("read_header", 200, Calls(reads::headers), "0 21 22 23 24 25 27 touching"),
     kind("read_many", 600, Calls(reads::many), "0 21 24 26 27"),

@@ -1,9 +1,8 @@
 //! Picks on stacks.
 
-use crate::call::{Call, OnStack};
+use crate::call::{Call, OnStack, Walk};
 use crate::chance::Chance;
 use crate::wedge_lines::{frame, height, normal_in_frame, reach};
-use second::pick::pick;
 use second::point::{dot, lay, minus, plus, signs, times, Point, UNITS};
 use second::solid::{Sizes, Solid};
 use std::cell::RefCell;
@@ -187,7 +186,7 @@ pub fn any(chance: &mut Chance, _: u64) -> Vec<Call> {
     if chance.percent(8) {
         damage(chance, &mut asked);
     }
-    vec![Call::Stack(asked)]
+    vec![Call::Stack(Walk::Pick, asked)]
 }
 
 pub fn on_stack(sides: Point, bytes: Vec<u8>, start: Point, frame: i64, reach: i64) -> OnStack {
@@ -248,6 +247,11 @@ impl Solid for Unforeseen {
 }
 
 pub fn unforeseen(chance: &mut Chance, _: u64) -> Vec<Call> {
+    decided_by(Walk::Pick, chance)
+}
+
+/// A stack decided as the second program's walk goes on, and that walk on it.
+pub fn decided_by(walk: Walk, chance: &mut Chance) -> Vec<Call> {
     let large = if chance.percent(15) { 256 } else { 100 };
     let side = chance.one_of(&[24, 48, 64, large]);
     let sides = [0, 1, 2].map(|_| side - chance.between(0, 7));
@@ -262,12 +266,12 @@ pub fn unforeseen(chance: &mut Chance, _: u64) -> Vec<Call> {
         density: chance.one_of(&[5, 15, 30, 50, 70, 90]),
         decided: RefCell::default(),
     };
-    let _ = pick(&solid, start, frame, reach);
+    walk.second(&solid, start, frame, reach);
     let [width, height, depth] = sides;
     let sizes = Sizes { width, height, depth };
     let mut bytes = vec![0; sizes.stack_bytes()];
     for (&point, &filled) in solid.decided.borrow().iter() {
         set(&mut bytes, sizes, point, filled);
     }
-    vec![Call::Stack(on_stack(sides, bytes, start, frame, reach))]
+    vec![Call::Stack(walk, on_stack(sides, bytes, start, frame, reach))]
 }

@@ -11,17 +11,15 @@ pub struct Tally {
 }
 
 impl Tally {
-    /// By its number, an accepted pick also by how many axes are level, and an accepted read by a
-    /// comment that touches.
+    /// By its number and its mark, and an accepted read by a comment that touches.
     pub fn call(&mut self, call: &Call, answer: &Answer) {
         self.calls += 1;
         self.note(&answer.number().to_string(), 1);
-        if answer.number() == 0 && call.is_touched() {
+        if answer.number() == 0 && call.has_touching_comment() {
             self.note("touching", 1);
         }
-        match answer.level_axes() {
-            0 => {}
-            axes => self.note(&format!("level{axes}"), 1),
+        if let Some(mark) = answer.mark() {
+            self.note(mark, 1);
         }
     }
 

@@ -1,6 +1,6 @@
 //! Picks on wedges.
 
-use crate::call::Call;
+use crate::call::{Call, Walk};
 use crate::chance::Chance;
 use crate::wedge_lines::{line, line_of, near_walls, normals};
 use second::point::{dot, lay, plus, signs};
@@ -20,12 +20,12 @@ pub fn heights(chance: &mut Chance, index: u64) -> Vec<Call> {
             let by_wall = near_walls(chance);
             let start = chance.one_of(&[[511; 3], [500, 520, 505], by_wall]);
             let h = dot(laid, plus(start, signs(frame))) - height;
-            calls.push(Call::Wedge(line_of(laid, h, start, frame, reach)));
+            calls.push(Call::Wedge(Walk::Pick, line_of(laid, h, start, frame, reach)));
         }
     }
     calls
 }
 
 pub fn any(chance: &mut Chance, _: u64) -> Vec<Call> {
-    vec![Call::Wedge(line(chance))]
+    vec![Call::Wedge(Walk::Pick, line(chance))]
 }

@@ -1,31 +1,59 @@
 //! The panel's library as include/ulgenzhir.h tells it.
 
-use crate::answers::{Lit, Pick, Read, Written};
+use crate::answers::{Lit, Pick, Read, Touch, Written};
+
+// Safe: a Rust slice's pointer is never null, and a `&mut` slice overlaps no other.
+
+/// A pick and a touch are called alike.
+macro_rules! walk {
+    ($answer:ty, $wedge:ident calls $c_wedge:ident, $stack:ident calls $c_stack:ident) => {
+        extern "C" {
+            fn $c_wedge(
+                a: i32,
+                b: i32,
+                c: i32,
+                h: i32,
+                px: i32,
+                py: i32,
+                pz: i32,
+                frame: i32,
+                reach: i32,
+            ) -> $answer;
+            fn $c_stack(
+                width: i32,
+                height: i32,
+                depth: i32,
+                bytes: *const u8,
+                len: usize,
+                px: i32,
+                py: i32,
+                pz: i32,
+                frame: i32,
+                reach: i32,
+            ) -> $answer;
+        }
+
+        pub fn $wedge([a, b, c, h, x, y, z, frame, reach]: [i32; 9]) -> $answer {
+            unsafe { $c_wedge(a, b, c, h, x, y, z, frame, reach) }
+        }
+
+        pub fn $stack(
+            [width, height, depth]: [i32; 3],
+            bytes: &[u8],
+            [x, y, z]: [i32; 3],
+            frame: i32,
+            reach: i32,
+        ) -> $answer {
+            let (pointer, len) = (bytes.as_ptr(), bytes.len());
+            unsafe { $c_stack(width, height, depth, pointer, len, x, y, z, frame, reach) }
+        }
+    };
+}
+
+walk!(Pick, pick_wedge calls ulgenzhir_pick_wedge, pick_stack calls ulgenzhir_pick_stack);
+walk!(Touch, touch_wedge calls ulgenzhir_touch_wedge, touch_stack calls ulgenzhir_touch_stack);
 
 extern "C" {
-    fn ulgenzhir_pick_wedge(
-        a: i32,
-        b: i32,
-        c: i32,
-        h: i32,
-        px: i32,
-        py: i32,
-        pz: i32,
-        frame: i32,
-        reach: i32,
-    ) -> Pick;
-    fn ulgenzhir_pick_stack(
-        width: i32,
-        height: i32,
-        depth: i32,
-        bytes: *const u8,
-        len: usize,
-        px: i32,
-        py: i32,
-        pz: i32,
-        frame: i32,
-        reach: i32,
-    ) -> Pick;
     fn ulgenzhir_read_p4(
         input: *const u8,
         input_len: usize,
@@ -42,23 +70,6 @@ extern "C" {
         out_len: usize,
     ) -> Written;
     fn ulgenzhir_display(nx: i32, ny: i32, nz: i32) -> Lit;
-}
-
-// Safe: a Rust slice's pointer is never null, and a `&mut` slice overlaps no other.
-
-pub fn pick_wedge([a, b, c, h, x, y, z, frame, reach]: [i32; 9]) -> Pick {
-    unsafe { ulgenzhir_pick_wedge(a, b, c, h, x, y, z, frame, reach) }
-}
-
-pub fn pick_stack(
-    [width, height, depth]: [i32; 3],
-    bytes: &[u8],
-    [x, y, z]: [i32; 3],
-    frame: i32,
-    reach: i32,
-) -> Pick {
-    let (pointer, len) = (bytes.as_ptr(), bytes.len());
-    unsafe { ulgenzhir_pick_stack(width, height, depth, pointer, len, x, y, z, frame, reach) }
 }
 
 pub fn read_p4(input: &[u8], rows: &mut [u8]) -> Read {

@@ -2,34 +2,64 @@
 //! tests/measure/here). The module is lowered for x86-64, so the calls are written as they look
 //! there: a large struct is stored through a first pointer, a small one comes back as a pair.
 
-use crate::answers::{Lit, Pick, Read, Written};
+use crate::answers::{Lit, Pick, Read, Touch, Written};
+
+/// A pick and a touch are called alike.
+macro_rules! walk {
+    ($answer:ty, $wedge:ident calls $c_wedge:ident, $stack:ident calls $c_stack:ident) => {
+        extern "C" {
+            fn $c_wedge(
+                answer: *mut $answer,
+                a: i32,
+                b: i32,
+                c: i32,
+                h: i32,
+                px: i32,
+                py: i32,
+                pz: i32,
+                frame: i32,
+                reach: i32,
+            ) -> *mut $answer;
+            fn $c_stack(
+                answer: *mut $answer,
+                width: i32,
+                height: i32,
+                depth: i32,
+                bytes: *const u8,
+                len: usize,
+                px: i32,
+                py: i32,
+                pz: i32,
+                frame: i32,
+                reach: i32,
+            ) -> *mut $answer;
+        }
+
+        pub fn $wedge([a, b, c, h, x, y, z, frame, reach]: [i32; 9]) -> $answer {
+            let mut answer = <$answer>::default();
+            unsafe { $c_wedge(&mut answer, a, b, c, h, x, y, z, frame, reach) };
+            answer
+        }
+
+        pub fn $stack(
+            [w, h, d]: [i32; 3],
+            bytes: &[u8],
+            [x, y, z]: [i32; 3],
+            frame: i32,
+            reach: i32,
+        ) -> $answer {
+            let mut answer = <$answer>::default();
+            let (from, len) = (bytes.as_ptr(), bytes.len());
+            unsafe { $c_stack(&mut answer, w, h, d, from, len, x, y, z, frame, reach) };
+            answer
+        }
+    };
+}
+
+walk!(Pick, pick_wedge calls ulgenzhir_pick_wedge, pick_stack calls ulgenzhir_pick_stack);
+walk!(Touch, touch_wedge calls ulgenzhir_touch_wedge, touch_stack calls ulgenzhir_touch_stack);
 
 extern "C" {
-    fn ulgenzhir_pick_wedge(
-        answer: *mut Pick,
-        a: i32,
-        b: i32,
-        c: i32,
-        h: i32,
-        px: i32,
-        py: i32,
-        pz: i32,
-        frame: i32,
-        reach: i32,
-    ) -> *mut Pick;
-    fn ulgenzhir_pick_stack(
-        answer: *mut Pick,
-        width: i32,
-        height: i32,
-        depth: i32,
-        bytes: *const u8,
-        len: usize,
-        px: i32,
-        py: i32,
-        pz: i32,
-        frame: i32,
-        reach: i32,
-    ) -> *mut Pick;
     fn ulgenzhir_read_p4(
         answer: *mut Read,
         input: *const u8,
@@ -51,25 +81,6 @@ extern "C" {
 extern "Rust" {
     /// Number and x, then y and z, in one register of each kind.
     fn ulgenzhir_display(nx: i32, ny: i32, nz: i32) -> (u64, f64);
-}
-
-pub fn pick_wedge([a, b, c, h, x, y, z, frame, reach]: [i32; 9]) -> Pick {
-    let mut answer = Pick::default();
-    unsafe { ulgenzhir_pick_wedge(&mut answer, a, b, c, h, x, y, z, frame, reach) };
-    answer
-}
-
-pub fn pick_stack(
-    [w, h, d]: [i32; 3],
-    bytes: &[u8],
-    [x, y, z]: [i32; 3],
-    frame: i32,
-    reach: i32,
-) -> Pick {
-    let mut answer = Pick::default();
-    let (from, len) = (bytes.as_ptr(), bytes.len());
-    unsafe { ulgenzhir_pick_stack(&mut answer, w, h, d, from, len, x, y, z, frame, reach) };
-    answer
 }
 
 pub fn read_p4(input: &[u8], rows: &mut [u8]) -> Read {

@@ -21,10 +21,10 @@ mod worst;
 
 use chance::Chance;
 use second::listed::slope_stack;
-use second::pick::Record;
-use second::point::dot;
-use second::session::pick_of;
+use second::point::{dot, plus, signs};
+use second::session::{pick_of, touch_of};
 use second::solid::WEDGE_SIDE;
+use second::walk::Record;
 use std::fmt::Debug;
 use std::time::Instant;
 
@@ -107,7 +107,27 @@ fn typical_lines(reach: i64, level_axes: usize, count: usize) -> Vec<[i32; 9]> {
     lines
 }
 
-/// One pick on a stack.
+/// The slopes of typical picks with q on the plane's first empty level, where touches are accepted.
+fn touched_lines(reach: i64, count: usize) -> Vec<[i32; 9]> {
+    let picked = typical_lines(reach, 0, count).into_iter().map(|line| line.map(i64::from));
+    let touched = picked.map(|[a, b, c, _, x, y, z, frame, reach]| {
+        let h = dot([a, b, c], plus([x, y, z], signs(frame)));
+        [a, b, c, h, x, y, z, frame, reach]
+    });
+    let accepted = touched.filter(|&line| touch_of(line).is_ok());
+    accepted.map(|line| line.map(|number| number as i32)).collect()
+}
+
+fn timed_wedges<A: PartialEq + Debug>(
+    name: &str,
+    lines: &[[i32; 9]],
+    library: impl Fn([i32; 9]) -> A,
+    plain: impl Fn([i32; 9]) -> A,
+) -> Timed {
+    timed(name, lines, |&line| library(line), |&line| plain(line))
+}
+
+/// One pick or touch on a stack.
 struct Asked<'a> {
     side: i32,
     bytes: &'a [u8],
@@ -115,26 +135,29 @@ struct Asked<'a> {
     reach: i32,
 }
 
-fn timed_stacks(name: &str, asked: &[Asked]) -> Timed {
+fn timed_stacks<A: PartialEq + Debug>(
+    name: &str,
+    asked: &[Asked],
+    library: impl Fn([i32; 3], &[u8], [i32; 3], i32, i32) -> A,
+    plain: impl Fn([i32; 3], &[u8], [i32; 3], i32, i32) -> A,
+) -> Timed {
     timed(
         name,
         asked,
-        |a| library::pick_stack([a.side; 3], a.bytes, a.start, 0, a.reach),
-        |a| plain::pick_stack([a.side; 3], a.bytes, a.start, 0, a.reach),
+        |a| library([a.side; 3], a.bytes, a.start, 0, a.reach),
+        |a| plain([a.side; 3], a.bytes, a.start, 0, a.reach),
     )
 }
 
-/// Slopes in full stacks, asked at their middle.
-fn typical_stacks(rows: &mut Vec<Timed>) {
-    let reach = 16;
+/// Slopes in full stacks, q in their middle and so high above the plane.
+fn typical_stacks(height: i64) -> Vec<Vec<u8>> {
     let normals = [[1, 2, 5], [3, 4, 5], [5, 6, 1], [2, 7, 3], [1, 1, 9], [7, 4, 4]];
-    let stacks: Vec<Vec<u8>> = normals
-        .iter()
-        .map(|&[a, b, c]| slope_stack(256, [a, b, c, dot([a, b, c], [128; 3]) - 2]).1)
-        .collect();
-    let asked: Vec<Asked> =
-        stacks.iter().map(|bytes| Asked { side: 256, bytes, start: [127; 3], reach }).collect();
-    rows.push(timed_stacks("typical picks, stack 256, reach 16", &asked));
+    let slope = |[a, b, c]: [i64; 3]| [a, b, c, dot([a, b, c], [128; 3]) - height];
+    normals.iter().map(|&normal| slope_stack(256, slope(normal)).1).collect()
+}
+
+fn asked_in_the_middle(stacks: &[Vec<u8>], reach: i32) -> Vec<Asked<'_>> {
+    stacks.iter().map(|bytes| Asked { side: 256, bytes, start: [127; 3], reach }).collect()
 }
 
 fn picks(rows: &mut Vec<Timed>) -> Vec<String> {
@@ -143,26 +166,43 @@ fn picks(rows: &mut Vec<Timed>) -> Vec<String> {
         let lines = typical_lines(reach, level_axes, 400);
         let faces = ["", ", one level axis", ", two level axes"][level_axes];
         let name = format!("typical picks, wedge, reach {reach}{faces}");
-        rows.push(timed(
-            &name,
-            &lines,
-            |&line| library::pick_wedge(line),
-            |&line| plain::pick_wedge(line),
-        ));
+        rows.push(timed_wedges(&name, &lines, library::pick_wedge, plain::pick_wedge));
     }
     let (line, looks) = worst::worst_slope(WEDGE_SIDE, BEST_SLOPE, 4000);
     let told = line.map(|number| number.to_string()).join(" ");
     notes.push(format!("The worst wedge found is `{told}`, {looks} looks."));
     let name = format!("worst pick found, wedge, {looks} looks");
-    rows.push(timed(&name, &[line], |&l| library::pick_wedge(l), |&l| plain::pick_wedge(l)));
-    typical_stacks(rows);
+    rows.push(timed_wedges(&name, &[line], library::pick_wedge, plain::pick_wedge));
+    let stacks = typical_stacks(2);
+    let asked = asked_in_the_middle(&stacks, 16);
+    let (ours, theirs) = (library::pick_stack, plain::pick_stack);
+    rows.push(timed_stacks("typical picks, stack 256, reach 16", &asked, ours, theirs));
     let worst = worst::worst_stack(256, BEST_STACK, 12_000);
     notes
         .push(format!("The worst stack found takes {} looks, reach {}.", worst.looks, worst.reach));
     let asked = Asked { side: 256, bytes: &worst.bytes, start: worst.start, reach: worst.reach };
     let name = format!("worst pick found, stack 256, {} looks", worst.looks);
-    rows.push(timed_stacks(&name, &[asked]));
+    rows.push(timed_stacks(&name, &[asked], ours, theirs));
     notes
+}
+
+/// (1,1,254) takes as many steps as are ever allowed, 253, and on a wedge 5 + 6·254 looks: the
+/// most that a touch can. A stack ends it in the last round.
+fn touches(rows: &mut Vec<Timed>) {
+    let (ours, theirs) = (library::touch_wedge, plain::touch_wedge);
+    let lines = touched_lines(16, 400);
+    rows.push(timed_wedges("typical touches, wedge, reach 16", &lines, ours, theirs));
+    let line = [1, 1, 254, 131_072, 511, 511, 511, 0, 256];
+    let name = format!("worst touch, wedge, {} looks", theirs(line).looks);
+    rows.push(timed_wedges(&name, &[line], ours, theirs));
+    let (ours, theirs) = (library::touch_stack, plain::touch_stack);
+    let stacks = typical_stacks(0);
+    let asked = asked_in_the_middle(&stacks, 16);
+    rows.push(timed_stacks("typical touches, stack 256, reach 16", &asked, ours, theirs));
+    let (_, bytes) = slope_stack(256, [1, 1, 254, 128 * 256]);
+    let looks = theirs([256; 3], &bytes, [127; 3], 0, 256).looks;
+    let name = format!("worst touch found, stack 256, {looks} looks");
+    rows.push(timed_stacks(&name, &asked_in_the_middle(&[bytes], 256), ours, theirs));
 }
 
 /// A full stack and one whose rows are padded.
@@ -220,9 +260,20 @@ fn told(seconds: f64) -> String {
     }
 }
 
+fn print_slowest(worst: &str, walks: &str, rows: &[Timed]) {
+    let named = rows.iter().filter(|row| row.name.starts_with(worst)).map(|row| row.library);
+    let longest = named.fold(0.0, f64::max);
+    let share = REDRAW_SECONDS / longest;
+    println!(
+        "The slowest of these {walks} takes {}: {share:.0} of them fit in a redraw of 33 ms.",
+        told(longest)
+    );
+}
+
 fn main() {
     let mut rows = Vec::new();
     let notes = picks(&mut rows);
+    touches(&mut rows);
     stacks(&mut rows);
     displays(&mut rows);
     println!("Machine: {}. Medians of {ROUNDS} rounds, both by turns.\n", machine());
@@ -237,14 +288,9 @@ fn main() {
         );
     }
     println!();
-    let worst = rows.iter().filter(|row| row.name.starts_with("worst")).map(|row| row.library);
-    let worst = worst.fold(0.0, f64::max);
     for note in notes {
         println!("{note}");
     }
-    let share = REDRAW_SECONDS / worst;
-    println!(
-        "The slowest of these picks takes {}: {share:.0} of them fit in a redraw of 33 ms.",
-        told(worst)
-    );
+    print_slowest("worst pick", "picks", &rows);
+    print_slowest("worst touch", "touches", &rows);
 }

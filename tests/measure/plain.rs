@@ -1,7 +1,7 @@
 //! The same walk, reader, writer and display normal as a Rust programmer would write them for
 //! speed: small numbers, early ends, slices copied whole. What the library is timed against.
 
-use crate::answers::{Lit, Pick, Point, Read, Written};
+use crate::answers::{Lit, Pick, Point, Read, Touch, Written};
 
 type Vector = [i32; 3];
 
@@ -86,7 +86,8 @@ fn inside(sides: Vector, point: Vector) -> bool {
         && (point[2] as u32) < sides[2] as u32
 }
 
-struct Walk<'a, S> {
+/// A pick's walk, or a touch's, each compiled for itself.
+struct Walk<'a, S, const TOUCH: bool> {
     solid: &'a S,
     sides: Vector,
     apex: Vector,
@@ -102,7 +103,7 @@ struct Stop(u32, Vector);
 const PAIRS: [(usize, usize); 6] = [(0, 1), (0, 2), (1, 0), (1, 2), (2, 0), (2, 1)];
 const UNITS: [Vector; 3] = [[1, 0, 0], [0, 1, 0], [0, 0, 1]];
 
-impl<S: Solid> Walk<'_, S> {
+impl<S: Solid, const TOUCH: bool> Walk<'_, S, TOUCH> {
     #[inline]
     fn look(&mut self, point: Vector) -> Result<bool, Stop> {
         if !inside(self.sides, point) {
@@ -120,7 +121,7 @@ impl<S: Solid> Walk<'_, S> {
             if self.look(plus(self.apex, times(power, laid)))? {
                 return Ok(true);
             }
-            if power >= self.reach {
+            if TOUCH || power >= self.reach {
                 return Ok(false);
             }
             power *= 2;
@@ -135,23 +136,42 @@ impl<S: Solid> Walk<'_, S> {
         if self.look(self.apex)? {
             return Err(Stop(6, self.apex));
         }
+        if TOUCH {
+            self.corners()
+        } else {
+            self.axes()
+        }
+    }
+
+    fn axes(&mut self) -> Result<[bool; 3], Stop> {
         let mut level = [false; 3];
         for (level, unit) in level.iter_mut().zip(UNITS) {
             if !self.falls(times(-1, unit))? {
                 if self.falls(unit)? {
-                    return Err(self.beside_apex(unit));
+                    return Err(Stop(7, self.corner(unit)));
                 }
                 *level = true;
             }
         }
         if level == [true; 3] {
-            return Err(self.beside_apex(UNITS[0]));
+            return Err(Stop(7, self.corner(UNITS[0])));
         }
         Ok(level)
     }
 
-    fn beside_apex(&self, unit: Vector) -> Stop {
-        Stop(7, minus(self.apex, lay(self.signs, unit)))
+    /// A touch asks no axis.
+    fn corners(&mut self) -> Result<[bool; 3], Stop> {
+        for unit in UNITS {
+            let corner = self.corner(unit);
+            if !self.look(corner)? {
+                return Err(Stop(11, corner));
+            }
+        }
+        Ok([false; 3])
+    }
+
+    fn corner(&self, unit: Vector) -> Vector {
+        minus(self.apex, lay(self.signs, unit))
     }
 
     /// Rounds over the pairs that take part, with so many steps (none if below zero). As in the
@@ -223,7 +243,14 @@ fn refused(number: u32, place: Vector, steps: u32, looks: u32) -> Pick {
     Pick { number, place: point(place), steps, looks, ..Default::default() }
 }
 
-fn pick<S: Solid>(solid: &S, permitted: bool, start: Vector, frame: i32, reach: i32) -> Pick {
+/// All of an answer but a touch's mark.
+fn walked<S: Solid, const TOUCH: bool>(
+    solid: &S,
+    permitted: bool,
+    start: Vector,
+    frame: i32,
+    reach: i32,
+) -> Pick {
     if !(1..=256).contains(&reach) {
         return refused(1, [0; 3], 0, 0);
     }
@@ -242,16 +269,31 @@ fn pick<S: Solid>(solid: &S, permitted: bool, start: Vector, frame: i32, reach: 
     if !inside(sides, apex) {
         return refused(4, apex, 0, 0);
     }
-    let mut walk = Walk { solid, sides, apex, signs, reach, steps: 0, looks: 0 };
+    let mut walk = Walk::<S, TOUCH> { solid, sides, apex, signs, reach, steps: 0, looks: 0 };
     walk.end(start)
         .unwrap_or_else(|Stop(number, place)| refused(number, place, walk.steps, walk.looks))
 }
 
-#[inline(never)]
-pub fn pick_wedge([a, b, c, h, x, y, z, frame, reach]: [i32; 9]) -> Pick {
+#[inline]
+fn on_wedge<const TOUCH: bool>([a, b, c, h, x, y, z, frame, reach]: [i32; 9]) -> Pick {
     let permitted = [a, b, c].iter().all(|part| (-1000..=1000).contains(part))
         && (-4_000_000..=4_000_000).contains(&h);
-    pick(&Wedge { abc: [a, b, c], h }, permitted, [x, y, z], frame, reach)
+    let solid = Wedge { abc: [a, b, c], h };
+    walked::<_, TOUCH>(&solid, permitted, [x, y, z], frame, reach)
+}
+
+fn guess(rest: Pick) -> Touch {
+    Touch::of(u32::from(rest.number == 0), rest)
+}
+
+#[inline(never)]
+pub fn pick_wedge(line: [i32; 9]) -> Pick {
+    on_wedge::<false>(line)
+}
+
+#[inline(never)]
+pub fn touch_wedge(line: [i32; 9]) -> Touch {
+    guess(on_wedge::<true>(line))
 }
 
 fn row_bytes(width: i32) -> usize {
@@ -263,10 +305,33 @@ fn sizes_permitted(sizes: Vector, len: usize) -> bool {
         && row_bytes(sizes[0]) * sizes[1] as usize * sizes[2] as usize <= len
 }
 
+#[inline]
+fn on_stack<const TOUCH: bool>(
+    sizes: [i32; 3],
+    bytes: &[u8],
+    start: [i32; 3],
+    frame: i32,
+    reach: i32,
+) -> Pick {
+    let solid = Stack { sides: sizes, row_bytes: row_bytes(sizes[0]), bytes };
+    let permitted = sizes_permitted(sizes, bytes.len());
+    walked::<_, TOUCH>(&solid, permitted, start, frame, reach)
+}
+
 #[inline(never)]
 pub fn pick_stack(sizes: [i32; 3], bytes: &[u8], start: [i32; 3], frame: i32, reach: i32) -> Pick {
-    let solid = Stack { sides: sizes, row_bytes: row_bytes(sizes[0]), bytes };
-    pick(&solid, sizes_permitted(sizes, bytes.len()), start, frame, reach)
+    on_stack::<false>(sizes, bytes, start, frame, reach)
+}
+
+#[inline(never)]
+pub fn touch_stack(
+    sizes: [i32; 3],
+    bytes: &[u8],
+    start: [i32; 3],
+    frame: i32,
+    reach: i32,
+) -> Touch {
+    guess(on_stack::<true>(sizes, bytes, start, frame, reach))
 }
 
 fn read_refused(number: u32, value: usize) -> Read {

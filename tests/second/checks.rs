@@ -3,13 +3,19 @@
 use crate::display::display;
 use crate::listed::*;
 use crate::p4;
-use crate::pick::{pick, Refusal};
-use crate::session::{numbers, pick_of, session, MOST_BYTES};
-use crate::solid::{Sizes, Stack};
+use crate::pick::pick;
+use crate::point::{dot, lay, plus, signs, Point};
+use crate::session::{numbers, pick_of, session, told, told_touch, touch_of, MOST_BYTES};
+use crate::solid::{Sizes, Stack, Wedge};
+use crate::touch::{touch, Guess};
+use crate::walk::{Record, Refusal};
 
 pub fn all() {
     lines();
     triangles();
+    touches();
+    touch_triangles();
+    first_empty_level();
     sessions();
     a_line_cut_at_the_last_byte_read();
     sum_above_reach();
@@ -36,6 +42,56 @@ pub fn triangles() {
     for (input, vectors) in TRIANGLES {
         let record = pick_of(numbers(input.as_bytes()).unwrap()).unwrap();
         assert_eq!(record.vectors, *vectors, "{input}");
+    }
+}
+
+#[cfg_attr(test, test)]
+pub fn touches() {
+    for (input, output) in TOUCHES {
+        let answer = touch_of(numbers(input.as_bytes()).unwrap());
+        assert_eq!(told_touch(answer), format!("{output}\n"), "{input}");
+    }
+}
+
+#[cfg_attr(test, test)]
+pub fn touch_triangles() {
+    for (input, vectors) in TOUCH_TRIANGLES {
+        let Guess(record) = touch_of(numbers(input.as_bytes()).unwrap()).unwrap();
+        assert_eq!(record.vectors, *vectors, "{input}");
+    }
+}
+
+/// "With q exactly on the plane's first empty level, an accepted quick touch gives the normal and
+/// triangle of an accepted long walk."
+#[cfg_attr(test, test)]
+pub fn first_empty_level() {
+    let parts = || 0..=4;
+    for frame in 0..8 {
+        for a in parts() {
+            for [b, c] in parts().flat_map(|b| parts().map(move |c| [b, c])) {
+                on_first_empty_level([a, b, c], frame);
+            }
+        }
+    }
+}
+
+/// In the middle of the box a pick is accepted; a touch too, unless a part is 0.
+fn on_first_empty_level(parts: Point, frame: i64) {
+    let start = [511; 3];
+    let normal = lay(signs(frame), parts);
+    let wedge = Wedge { abc: normal, h: dot(normal, plus(start, signs(frame))) };
+    let reach = parts.iter().sum::<i64>().max(1);
+    match touch(&wedge, start, frame, reach) {
+        Ok(Guess(touched)) => {
+            assert!(!parts.contains(&0), "a level face was accepted");
+            let picked = pick(&wedge, start, frame, reach).unwrap();
+            assert_eq!(touched, Record { looks: touched.looks, ..picked });
+        }
+        Err(refusal) if parts == [0; 3] => assert_eq!(refusal.number, 5),
+        Err(refusal) => {
+            let level = parts.iter().position(|&part| part == 0);
+            assert_eq!((refusal.number, refusal.looks), (11, level.unwrap() as u32 + 3));
+        }
     }
 }
 
@@ -69,19 +125,26 @@ pub fn a_line_cut_at_the_last_byte_read() {
 #[cfg_attr(test, test)]
 pub fn sum_above_reach() {
     let (sizes, bytes) = sum_above_reach_stack();
-    let answer = pick(&Stack { sizes, bytes: &bytes }, [31, 31, 31], 0, 5);
+    let stack = Stack { sizes, bytes: &bytes };
+    let answer = pick(&stack, [31, 31, 31], 0, 5);
     let Refusal { number, place, steps, looks } = answer.unwrap_err();
     assert_eq!((number, place, steps, looks), (10, [32, 32, 32], 2, 71));
-    let answer = pick(&Stack { sizes, bytes: &bytes }, [31, 31, 31], 0, 6);
+    let answer = pick(&stack, [31, 31, 31], 0, 6);
     assert_eq!(answer.map(|record| record.normal), Ok([3, 2, 1]));
+    // What is filled is at power 1, so a touch takes the same steps: three rounds.
+    assert_eq!(told_touch(touch(&stack, [31, 31, 31], 0, 5)), "R 10 32 32 32 2 23\n");
+    assert_eq!(told_touch(touch(&stack, [31, 31, 31], 0, 6)), "G 3 2 1 2 23\n");
 }
 
 #[cfg_attr(test, test)]
 pub fn stacks() {
     for case in STACKS {
         let (sizes, bytes) = case.stack();
-        let answer = pick(&Stack { sizes, bytes: &bytes }, case.start, 0, case.reach);
-        assert_eq!(crate::session::told(answer), format!("{}\n", case.told));
+        let stack = Stack { sizes, bytes: &bytes };
+        let picked = told(pick(&stack, case.start, 0, case.reach));
+        let touched = told_touch(touch(&stack, case.start, 0, case.reach));
+        let expected = [case.told.pick, case.told.touch].map(|told| format!("{told}\n"));
+        assert_eq!([picked, touched], expected);
     }
 }
 

@@ -11,3 +11,5 @@ pub mod pick;
 pub mod point;
 pub mod session;
 pub mod solid;
+pub mod touch;
+pub mod walk;

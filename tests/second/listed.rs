@@ -116,6 +116,99 @@ pub const TRIANGLES: &[(&str, [[i64; 3]; 3])] = &[
     ("-3 0 5 202 100 100 100 3 8", [[-2, 0, -1], [0, -1, 0], [3, 0, 2]]),
 ];
 
+/// A touch of a wedge, asked as a line asks a pick, and its answer as a session would tell it, "G"
+/// for a guess. Where no corner is empty a round takes 6 looks: 5 + 6 times the rounds in all, and
+/// an accepted touch has one round more than steps.
+pub const TOUCHES: &[(&str, &str)] = &[
+    // W1 to W8. W2 and W6 have an empty corner; W7, which the long walk leaves, is accepted.
+    ("1 2 5 808 100 100 100 0 8", "G 1 2 5 5 41"),
+    ("1 2 5 801 100 100 100 0 8", "R 11 100 101 101 0 3"),
+    ("1 2 5 808 100 100 100 0 7", "R 9 101 101 101 4 35"),
+    ("1 1 1 303 100 100 100 0 3", "G 1 1 1 0 11"),
+    ("1 2 5 808 1 1 1 0 8", "R 6 2 2 2 0 2"),
+    ("0 1 1 202 100 100 100 0 8", "R 11 100 101 101 0 3"),
+    ("1 1 1 3 0 0 0 0 3", "G 1 1 1 0 11"),
+    ("-1 2 5 608 100 100 100 1 8", "G -1 2 5 5 41"),
+    // W1's mirror images in the other frames.
+    ("1 -2 5 408 100 100 100 2 8", "G 1 -2 5 5 41"),
+    ("-1 -2 5 208 100 100 100 3 8", "G -1 -2 5 5 41"),
+    ("1 2 -5 -192 100 100 100 4 8", "G 1 2 -5 5 41"),
+    ("-1 2 -5 -392 100 100 100 5 8", "G -1 2 -5 5 41"),
+    ("1 -2 -5 -592 100 100 100 6 8", "G 1 -2 -5 5 41"),
+    ("-1 -2 -5 -792 100 100 100 7 8", "G -1 -2 -5 5 41"),
+    // 1 to 6 are the pick's, in its order.
+    ("1 2 5 808 100 100 100 0 0", "R 1 0 0 0 0 0"),
+    ("1 2 5 808 100 100 100 0 257", "R 1 0 0 0 0 0"),
+    ("1001 1 1 303 -1 5 5 8 -1", "R 1 0 0 0 0 0"),
+    ("1001 1 1 303 -1 5 5 8 1", "R 2 0 0 0 0 0"),
+    ("1 1 1 303 100 100 100 -1 8", "R 2 0 0 0 0 0"),
+    ("1001 1 1 303 -1 5 5 7 3", "R 3 0 0 0 0 0"),
+    ("1 1 1 4000001 5 5 5 0 3", "R 3 0 0 0 0 0"),
+    ("1000 1 1 303 -1 5 5 7 3", "R 4 -1 5 5 0 0"),
+    ("1 1 1 303 1023 5 5 0 8", "R 4 1024 6 6 0 0"),
+    ("1 1 1 303 5 -2147483648 5 7 8", "R 4 5 -2147483648 5 0 0"),
+    ("0 0 0 0 5 5 5 0 3", "R 5 5 5 5 0 1"),
+    ("0 0 0 1 5 5 5 0 3", "R 6 6 6 6 0 2"),
+    // 11, the lowest empty corner: a level axis or two, and no question of 7 or of the reach.
+    ("0 1 1 202 100 100 100 0 1", "R 11 100 101 101 0 3"),
+    ("1 0 1 202 100 100 100 0 8", "R 11 101 100 101 0 4"),
+    ("1 1 0 202 100 100 100 0 8", "R 11 101 101 100 0 5"),
+    ("0 0 1 101 100 100 100 0 1", "R 11 100 101 101 0 3"),
+    ("0 1 0 101 100 100 100 0 8", "R 11 100 101 101 0 3"),
+    ("1 0 0 101 100 100 100 0 8", "R 11 101 100 101 0 4"),
+    ("1 0 -1 2 100 100 100 4 8", "R 11 101 100 99 0 4"),
+    ("0 -1 -1 -198 100 100 100 7 8", "R 11 100 99 99 0 3"),
+    ("-1 -1 0 -198 100 100 100 7 8", "R 11 99 99 100 0 5"),
+    // 11 off the level: q is as high above the plane as one part of the normal is long, or higher.
+    ("1 2 5 807 100 100 100 0 8", "R 11 100 101 101 0 3"),
+    ("5 2 1 806 100 100 100 0 8", "R 11 101 100 101 0 4"),
+    ("5 2 1 807 100 100 100 0 8", "R 11 101 101 100 0 5"),
+    ("1 1 1 301 100 100 100 0 1", "R 11 100 101 101 0 3"),
+    // 11 where a part is against the frame: a pick gives 7 there.
+    ("1 -1 2 202 100 100 100 0 8", "R 11 101 100 101 0 4"),
+    ("0 -1 2 101 100 100 100 0 8", "R 11 100 101 101 0 3"),
+    // No step where the reach is at most 3; one, with a second round, where it is 4.
+    ("1 2 5 808 100 100 100 0 1", "R 9 101 101 101 0 11"),
+    ("1 2 5 808 100 100 100 0 2", "R 9 101 101 101 0 11"),
+    ("1 2 5 808 100 100 100 0 3", "R 9 101 101 101 0 11"),
+    ("1 2 5 808 100 100 100 0 4", "R 9 101 101 101 1 17"),
+    // 10 is by the reach, with no step and after the seven that (5,6,7) takes, as a pick there.
+    ("1 1 1 303 100 100 100 0 2", "R 10 101 101 101 0 11"),
+    ("1 1 1 303 100 100 100 0 1", "R 10 101 101 101 0 11"),
+    ("5 6 7 9216 511 511 511 0 18", "G 5 6 7 7 53"),
+    ("5 6 7 9216 511 511 511 0 17", "R 10 512 512 512 7 53"),
+    ("5 6 7 9216 511 511 511 0 10", "R 10 512 512 512 7 53"),
+    ("5 6 7 9216 511 511 511 0 9", "R 9 512 512 512 6 47"),
+    // 8 only at power 1, beside a wall: at once, after a step. In the middle a long reach is free,
+    // and the steps are those of the picks above.
+    ("1 1 1 3069 1022 1022 1022 0 3", "R 8 1022 1024 1023 0 5"),
+    ("1 2 5 8 0 0 0 0 8", "R 8 -1 2 1 1 11"),
+    ("1 1 2 2048 511 511 511 0 256", "G 1 1 2 1 17"),
+    ("3 5 7 7680 511 511 511 0 128", "G 3 5 7 6 47"),
+    ("1 1 1 1536 511 511 511 0 256", "G 1 1 1 0 11"),
+    // The most steps and looks: m2 comes down by one at each step, from 254 to 1.
+    ("1 1 254 131072 511 511 511 0 256", "G 1 1 254 253 1529"),
+    ("1 1 254 131072 511 511 511 0 255", "R 9 512 512 512 252 1523"),
+    // A common divisor, on the first level.
+    ("2 2 4 808 100 100 100 0 8", "G 1 1 2 1 17"),
+    // Off the level it may be wrong: no more than power 1 is looked at. (The steps of (2,3,9) are
+    // the second program's.)
+    ("2 2 3 707 100 100 100 0 7", "G 2 2 3 3 29"),
+    ("2 2 3 706 100 100 100 0 7", "G 1 1 1 0 11"),
+    ("2 3 9 1413 100 100 100 0 14", "G 1 1 4 3 29"),
+    ("2 3 9 1414 100 100 100 0 14", "G 2 3 9 7 53"),
+];
+
+/// Touches whose triangle is listed, with the vectors laid in: W1's, in frames with no, one, two
+/// and three minus signs.
+pub const TOUCH_TRIANGLES: &[(&str, [[i64; 3]; 3])] = &[
+    ("1 2 5 808 100 100 100 0 8", [[1, 0, 0], [-1, 1, 0], [-2, -1, 1]]),
+    ("-1 2 5 608 100 100 100 1 8", [[-1, 0, 0], [1, 1, 0], [2, -1, 1]]),
+    ("-1 2 -5 -392 100 100 100 5 8", [[-1, 0, 0], [1, 1, 0], [2, -1, -1]]),
+    ("-1 -2 -5 -792 100 100 100 7 8", [[-1, 0, 0], [1, -1, 0], [2, 1, -1]]),
+    ("1 1 1 3 0 0 0 0 3", [[1, 0, 0], [0, 1, 0], [0, 0, 1]]),
+];
+
 /// A whole session and its output.
 pub const SESSIONS: &[(&[u8], &[u8])] = &[
     (b"", b""),
@@ -135,36 +228,59 @@ pub enum Filled {
     Only(&'static [[i64; 3]]),
 }
 
-/// A stack, what is asked of it in frame 0, and the answer as a session tells it.
+/// A stack, what is asked of it in frame 0, and the answers as a session tells them.
 pub struct StackCase {
     pub side: i64,
     pub filled: Filled,
     pub start: [i64; 3],
     pub reach: i64,
-    pub told: &'static str,
+    pub told: Told,
 }
 
-const fn slope_case(slope: [i64; 4], reach: i64, told: &'static str) -> StackCase {
+/// What a pick and what a touch answers.
+pub struct Told {
+    pub pick: &'static str,
+    pub touch: &'static str,
+}
+
+const fn told(pick: &'static str, touch: &'static str) -> Told {
+    Told { pick, touch }
+}
+
+const fn slope_case(slope: [i64; 4], reach: i64, told: Told) -> StackCase {
     StackCase { side: 256, filled: Filled::Slope(slope), start: [127; 3], reach, told }
 }
 
-const fn few_case(only: &'static [[i64; 3]], reach: i64, told: &'static str) -> StackCase {
+const fn few_case(only: &'static [[i64; 3]], reach: i64, told: Told) -> StackCase {
     StackCase { side: 8, filled: Filled::Only(only), start: [3; 3], reach, told }
 }
 
 pub const STACKS: &[StackCase] = &[
-    // Limits: a stack offers at most 64.
-    slope_case([1, 1, 1, 384], 64, "N 1 1 1 0 47"),
-    slope_case([1, 1, 1, 384], 65, "R 8 0 256 128 0 12"),
-    slope_case([0, 0, 1, 128], 64, "N 0 0 1 0 31"),
-    slope_case([0, 0, 1, 128], 65, "R 8 256 128 128 0 17"),
+    // Limits: a stack offers at most 64 to a pick.
+    slope_case([1, 1, 1, 384], 64, told("N 1 1 1 0 47", "G 1 1 1 0 11")),
+    slope_case([1, 1, 1, 384], 65, told("R 8 0 256 128 0 12", "G 1 1 1 0 11")),
+    slope_case([0, 0, 1, 128], 64, told("N 0 0 1 0 31", "R 11 127 128 128 0 3")),
+    slope_case([0, 0, 1, 128], 65, told("R 8 256 128 128 0 17", "R 11 127 128 128 0 3")),
     // p alone filled; beside it the voxel opposite on axis 0; two on the other axes instead.
-    few_case(&[[3, 3, 3]], 1, "R 7 3 4 4 0 8"),
-    few_case(&[[3, 3, 3]], 2, "R 7 3 4 4 0 14"),
-    few_case(&[[3, 3, 3]], 3, "R 8 8 4 4 0 7"),
-    few_case(&[[3, 3, 3], [5, 4, 4]], 2, "R 7 3 4 4 0 5"),
-    few_case(&[[3, 3, 3], [4, 4, 3], [4, 3, 4]], 2, "N 0 1 1 0 12"),
+    few_case(&[[3, 3, 3]], 1, told("R 7 3 4 4 0 8", "R 11 3 4 4 0 3")),
+    few_case(&[[3, 3, 3]], 2, told("R 7 3 4 4 0 14", "R 11 3 4 4 0 3")),
+    few_case(&[[3, 3, 3]], 3, told("R 8 8 4 4 0 7", "R 11 3 4 4 0 3")),
+    few_case(&[[3, 3, 3], [5, 4, 4]], 2, told("R 7 3 4 4 0 5", "R 11 3 4 4 0 3")),
+    few_case(&[[3, 3, 3], [4, 4, 3], [4, 3, 4]], 2, told("N 0 1 1 0 12", "R 11 3 4 4 0 3")),
+    // Two corners; all three, and the box is too small for a pick's last power.
+    few_case(&[[3, 3, 3], [3, 4, 4], [4, 4, 3]], 2, told("N 1 0 1 0 12", "R 11 4 3 4 0 4")),
+    few_case(&[[3, 3, 3], [3, 4, 4], [4, 3, 4]], 2, told("N 1 1 0 0 12", "R 11 4 4 3 0 5")),
+    few_case(CORNERS, 3, told("R 8 0 8 4 0 7", "G 1 1 1 0 11")),
+    few_case(CORNERS, 2, told("R 10 4 4 4 0 17", "R 10 4 4 4 0 11")),
+    // A corner that is empty, while the voxel at power 2 is filled.
+    few_case(TWO_BELOW, 2, told("R 10 4 4 4 0 18", "R 11 3 4 4 0 3")),
 ];
+
+/// p and the three corners.
+const CORNERS: &[[i64; 3]] = &[[3, 3, 3], [3, 4, 4], [4, 3, 4], [4, 4, 3]];
+
+/// p, the voxel two below q on axis 0, and the other two corners.
+const TWO_BELOW: &[[i64; 3]] = &[[3, 3, 3], [2, 4, 4], [4, 3, 4], [4, 4, 3]];
 
 impl StackCase {
     pub fn stack(&self) -> (Sizes, Vec<u8>) {

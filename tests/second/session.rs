@@ -1,7 +1,10 @@
 //! The wedge program's session: the whole text in, the whole text out.
 
 use crate::pick::{pick, Pick};
+use crate::point::Point;
 use crate::solid::Wedge;
+use crate::touch::{touch, Guess, Touch};
+use crate::walk::{Record, Refusal};
 
 pub const MOST_BYTES: usize = 65_536;
 
@@ -42,15 +45,36 @@ fn number(text: &[u8]) -> Option<i64> {
 }
 
 /// A line's numbers: a b c h, p, frame, R.
-pub fn pick_of([a, b, c, h, x, y, z, frame, reach]: [i64; 9]) -> Pick {
-    pick(&Wedge { abc: [a, b, c], h }, [x, y, z], frame, reach)
+pub fn asked_by<A>(
+    [a, b, c, h, x, y, z, frame, reach]: [i64; 9],
+    ask: impl FnOnce(&Wedge, Point, i64, i64) -> A,
+) -> A {
+    ask(&Wedge { abc: [a, b, c], h }, [x, y, z], frame, reach)
+}
+
+pub fn pick_of(nine: [i64; 9]) -> Pick {
+    asked_by(nine, pick)
+}
+
+/// No session asks for a touch; the nine numbers are the same.
+pub fn touch_of(nine: [i64; 9]) -> Touch {
+    asked_by(nine, touch)
 }
 
 pub fn told(answer: Pick) -> String {
+    told_as("N", answer)
+}
+
+/// In the session's manner, with "G" for a guess.
+pub fn told_touch(answer: Touch) -> String {
+    told_as("G", answer.map(|Guess(record)| record))
+}
+
+fn told_as(accepted: &str, answer: Result<Record, Refusal>) -> String {
     match answer {
         Ok(record) => {
             let [x, y, z] = record.normal;
-            format!("N {x} {y} {z} {} {}\n", record.steps, record.looks)
+            format!("{accepted} {x} {y} {z} {} {}\n", record.steps, record.looks)
         }
         Err(refusal) => {
             let [x, y, z] = refusal.place;

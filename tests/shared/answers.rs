@@ -24,6 +24,29 @@ pub struct Pick {
 
 #[repr(C)]
 #[derive(Clone, Copy, Debug, Default, PartialEq, Eq)]
+pub struct Touch {
+    pub number: u32,
+    pub guess: u32,
+    pub place: Point,
+    pub steps: u32,
+    pub looks: u32,
+    pub normal: Point,
+    pub m0: Point,
+    pub m1: Point,
+    pub m2: Point,
+    pub apex: Point,
+}
+
+impl Touch {
+    /// The mark, and all else as a pick's.
+    pub fn of(guess: u32, rest: Pick) -> Touch {
+        let Pick { number, place, steps, looks, normal, m0, m1, m2, apex } = rest;
+        Touch { number, guess, place, steps, looks, normal, m0, m1, m2, apex }
+    }
+}
+
+#[repr(C)]
+#[derive(Clone, Copy, Debug, Default, PartialEq, Eq)]
 pub struct Read {
     pub number: u32,
     pub value: u64,

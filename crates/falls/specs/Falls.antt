@@ -27,12 +27,12 @@ pub record Fallen (c : Probe) (u : Vector) (looks : ℕ) (r : Falls) : Type 0 wh
   pub few : fallsLooks r ≤ looks + mostLooks 1
 
 -- before the look at power l, after n looks: what is left of the powers gives what all of them give
-pub record Falling (look : Vector → Look) (q u : Vector) (reach looks l n : ℕ) (way : Vector) : Type 0 where
+pub record Falling (look : Vector → Look) (q u : Vector) (span looks l n : ℕ) (way : Vector) : Type 0 where
   pub along : way ≡ scale (pos l) u
   pub sized : Bounded (2046 * l) way
   pub one : 1 ≤ l
   pub low : l < 512
   pub few : n < looks + l
   pub fuel : ℕ
-  pub enough : reach ≤ l + fuel
-  pub rest : {r : Tally Vector Bool} → Gives n (fallsAt look q u (powersFrom fuel l reach)) r → Gives looks (fallsAt look q u (powers reach)) r
+  pub enough : span ≤ l + fuel
+  pub rest : {r : Tally Vector Bool} → Gives n (fallsAt look q u (powersFrom fuel l span)) r → Gives looks (fallsAt look q u (powers span)) r

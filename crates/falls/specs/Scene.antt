@@ -9,10 +9,11 @@ use Rattle.falls.specs.declared.Scene.{Scene}
 
 -- a scene's probe, with the bytes lent
 abbrev pub probeOf : Scene → List ℕ → Probe
-probeOf v bytes = probeOn (v .solid) bytes (v .apex) (v .signs) (v .reach)
+probeOf v bytes = probeOn (v .solid) bytes (v .apex) (v .signs) (v .span)
 
 pub record Ready (v : Scene) (bytes : List ℕ) : Type 0 where
   pub permitted : PermittedSolid (v .solid) bytes
   pub placed : InBoxOf (v .solid) (v .apex)
   pub signed : Signs (v .signs)
+  pub span-high : v .span ≤ 256
   pub reach-high : v .reach ≤ 256

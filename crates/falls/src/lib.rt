@@ -7,11 +7,12 @@ use rules::Look;
 use rules::Solid;
 use rules::Vector;
 
-// What every question of one pick is about; the solid's bytes are lent beside it.
+// What every question of one pick or touch is about; the solid's bytes are lent beside it. Powers go up to the span, steps are allowed by the reach.
 pub struct Scene {
     pub solid: Solid,
     pub apex: Vector,
     pub signs: Vector,
+    pub span: u32,
     pub reach: u32,
 }
 
@@ -22,14 +23,14 @@ pub enum Falls {
     Stopped(Vector, u32),
 }
 
-// Whether u, laid in, falls: powers upward from 1 to the first that is at least the reach, each twice as far as the one before.
+// Whether u, laid in, falls: powers upward from 1 to the first that is at least the span, each twice as far as the one before.
 pub fn ask_falls(scene: Scene, bytes: &[u8], u: Vector, looks: u32) -> Falls
     requires { ⌜ Ready scene (now bytes) × Bounded 2046 u × Countable 1 looks ⌝ }
     ensures { λ r. ⌜ Fallen (probeOf scene (now (bytes .entry))) u looks r ⌝ }
 {
     let solid = scene.solid;
     let q = scene.apex;
-    let reach = scene.reach;
+    let span = scene.span;
     let mut way = u;
     let mut power: u32 = 1;
     let mut n = looks;
@@ -46,7 +47,7 @@ pub fn ask_falls(scene: Scene, bytes: &[u8], u: Vector, looks: u32) -> Falls
             }
             Look::Empty => {
                 n = n + 1;
-                if reach <= power {
+                if span <= power {
                     break Falls::Kept(n);
                 }
                 power = power + power;

@@ -1,4 +1,4 @@
--- What holds of document 01's definitions on every solid. `Theorems` states it by name; the others are the lemmas.
+-- What holds of the definitions of documents 01 and 02 on every solid. `Theorems` states it by name; the others are the lemmas.
 pub mod Tests
 pub mod Only
 pub mod Parts
@@ -25,8 +25,11 @@ pub mod Frames
 pub mod Ranges
 pub mod Boxes
 pub mod PickRule
+pub mod Corners
 pub mod Picks
+pub mod Touches
 pub mod Answers
+pub mod Touched
 pub mod BothWays
 pub mod Stacks
 pub mod Theorems

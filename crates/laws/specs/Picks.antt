@@ -14,7 +14,7 @@ use Rattle.rules.specs.declared.Levels.{Levels}
 use Rattle.rules.specs.declared.Triangle.{Triangle}
 use Rattle.rules.specs.declared.Pair.{Pair}
 use Rattle.rules.specs.Vectors.{size}
-use Rattle.rules.specs.Walk.{Stop, stop, powers, Axis, units, way, pairs, normal, keep, only, remaining, takesPart, levelled, Probe, Found, rounds, found}
+use Rattle.rules.specs.Walk.{Stop, stop, powers, Axis, units, way, pairs, normal, keep, only, remaining, takesPart, levelled, Probe, Found, axes, rounds, found}
 use Rattle.rules.specs.Pick.{probe, pick}
 use Rattle.laws.specs.Tests.{Each}
 use Rattle.laws.specs.Tame.{Tame, units-tame, step-tame}
@@ -39,21 +39,22 @@ pub record FewSteps (c : Probe) (R n : ℕ) : Type 0 where
 
 pub record Refusal (c : Probe) (R : ℕ) (r : Stop) : Type 0 where
   pub fewSteps : FewSteps c R (r .steps)
+  pub known : (1 ≤ r .number) × (r .number ≤ 10)
   pub next : r .number ≡ 8 → NextLook c r
 
 module _ (c : Probe) (R : ℕ) where
   none-taken : FewSteps c R 0
   none-taken = record { most = omega arith; asked = λ h. absurd (omega (arith, h)) }
 
-  other-than-8 : (number : ℕ) (p : Vector) (n : ℕ) → (number ≡ 8 → ⊥) → FewSteps c R n → Refusal c R (stop number p n)
-  other-than-8 number p n h k = record { fewSteps = k; next = λ e. absurd (h e) }
+  other-than-8 : (number : ℕ) (p : Vector) (n : ℕ) → (number ≡ 8 → ⊥) → (1 ≤ number) × (number ≤ 10) → FewSteps c R n → Refusal c R (stop number p n)
+  other-than-8 number p n h l k = record { fewSteps = k; known = l; next = λ e. absurd (h e) }
 
   -- before the first step
-  refuse : (number : ℕ) (p : Vector) → (number ≡ 8 → ⊥) → Refusal c R (stop number p 0)
-  refuse number p h = other-than-8 number p 0 h none-taken
+  refuse : (number : ℕ) (p : Vector) → (number ≡ 8 → ⊥) → (1 ≤ number) × (number ≤ 10) → Refusal c R (stop number p 0)
+  refuse number p h l = other-than-8 number p 0 h l none-taken
 
   eight : (p : Vector) (n : ℕ) → FewSteps c R n → NextLook c (stop 8 p n) → Refusal c R (stop 8 p n)
-  eight p n k h = record { fewSteps = k; next = λ _. h }
+  eight p n k h = record { fewSteps = k; known = (omega arith, omega arith); next = λ _. h }
 
 -- ---- what an end tells: no pair that takes part fell
 pub record End (c : Probe) (R : ℕ) (v : Levels) (e : Triangle × ℕ) : Type 0 where
@@ -100,7 +101,7 @@ module _ (c : Probe) (R : ℕ) (v : Levels) (asked : AxesOf c v) where
       fewSteps = (omega (arith, h .fewSteps), few-steps left r n m h);
       stood = none-fell c m (only (takesPart v) pairs) (w .0) (w .1) (choice-exists m (h .tame .unimodular) (w .0) (sym (w .2)));
     };
-    stops = λ r n m x h w. other-than-8 c R 9 _ n (omega arith) (few-steps 0 r n m h);
+    stops = λ r n m x h w. other-than-8 c R 9 _ n (omega arith) (omega arith, omega arith) (few-steps 0 r n m h);
     steps = λ left r n m x h w. let t = chosen-only c m (takesPart v) pairs x w in (
       left,
       omega (arith, h .isLeft),
@@ -173,30 +174,33 @@ module _ (ok : Bool) (look : Vector → Look) (p : Vector) (frame reach : ℤ) w
     small h = between-naturals 1 256 reach (h .permittedReach) .1
 
     -- at once, or after the looks at p and q
-    at-once : {number : ℕ} {a : Vector} {t : List Vector} → (number ≡ 8 → ⊥) → length t ≤ N → Few N RefusalHere (stop number a 0) t
-    at-once h l = record { holds = refuse c R _ _ h; few = l }
+    at-once : {number : ℕ} {a : Vector} {t : List Vector} → (1 ≤ number) × (number ≤ 6) → length t ≤ N → Few N RefusalHere (stop number a 0) t
+    at-once h l = record { holds = refuse c R _ _ (λ e. omega (arith, h .1, e)) (h .0, omega (arith, h .1)); few = l }
 
     axis-rule : (k : Axis) → AxisRule c RefusalHere k
-    axis-rule k = record { eight = λ p h. eight c R p 0 (none-taken c R) h; seven = λ _ _. refuse c R 7 _ (omega arith) }
+    axis-rule k = record { eight = λ p h. eight c R p 0 (none-taken c R) h; seven = λ _ _. refuse c R 7 _ (omega arith) (omega arith, omega arith) }
 
-    every-pick : PickRule ok look p frame reach Level Ended (Few N PickFound) (Few N RefusalHere)
+    every-pick : PickRule ok look p frame reach (powers R) (axes c) Level Ended (Few N PickFound) (Few N RefusalHere)
     every-pick = record {
-      one = λ _. at-once (omega arith) (omega arith);
-      two = λ _. at-once (omega arith) (omega arith);
-      three = λ _. at-once (omega arith) (omega arith);
-      fourStart = λ _. at-once (omega arith) (omega arith);
-      fourApex = λ _. at-once (omega arith) (omega arith);
-      five = λ h _. at-once (omega arith) (omega (arith, start-few (small h)));
-      six = λ h _ _. at-once (omega arith) (omega (arith, start-few (small h)));
-      axesSay = λ h.
+      inputs = record {
+        one = λ _. at-once (omega arith, omega arith) (omega arith);
+        two = λ _. at-once (omega arith, omega arith) (omega arith);
+        three = λ _. at-once (omega arith, omega arith) (omega arith);
+        fourStart = λ _. at-once (omega arith, omega arith) (omega arith);
+        fourApex = λ _. at-once (omega arith, omega arith) (omega arith);
+        five = λ h _. at-once (omega arith, omega arith) (omega (arith, start-few (small h)));
+        six = λ h _ _. at-once (omega arith, omega arith) (omega (arith, start-few (small h)));
+      };
+      beginSays = λ h.
           says-weaker _ (λ v t k. (k .0, omega (arith, k .1))) (λ r t k. fewer (λ l. omega (arith, l, start-few (small (h .passed)))) k)
-          (axes-says c axis-rule (λ _. refuse c R 7 _ (omega arith)));
-      roundsSay = λ h v t k.
-          says-weaker _ (λ e s j. (k .0, fewer (λ l. rounds-few h v t s k l) j)) (λ r s j. fewer (λ l. rounds-few h v t s k l) j) (rounds-say c R v (k .0));
-      ten = λ h v e t k n. record { holds = other-than-8 c R 10 _ (e .1) (omega arith) (k .1 .holds .fewSteps .1); few = k .1 .few };
-      ends = λ h v e t k n. record {
-        holds = record { passed = h .passed; accepting = record { level = v; asked = k .0; at = e; is = refl; end = k .1 .holds; fits = leb→le (size (levelled v (normal (e .0)))) R n } };
-        few = k .1 .few;
+          (axes-says c axis-rule (λ _. refuse c R 7 _ (omega arith) (omega arith, omega arith)));
+      toTheEnd = λ h v. record {
+        roundsSay = λ t k. says-weaker _ (λ e s j. (k .0, fewer (λ l. rounds-few h v t s k l) j)) (λ r s j. fewer (λ l. rounds-few h v t s k l) j) (rounds-say c R v (k .0));
+        ten = λ e t k n. record { holds = other-than-8 c R 10 _ (e .1) (omega arith) (omega arith, omega arith) (k .1 .holds .fewSteps .1); few = k .1 .few };
+        ends = λ e t k n. record {
+          holds = record { passed = h .passed; accepting = record { level = v; asked = k .0; at = e; is = refl; end = k .1 .holds; fits = leb→le (size (levelled v (normal (e .0)))) R n } };
+          few = k .1 .few;
+        };
       };
     }
       where

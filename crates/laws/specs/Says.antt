@@ -56,6 +56,11 @@ module _ {E A : Type 0} {Q : A → List Vector → Type 0} {F : E → List Vecto
   says-itself (answered a t) s = record { of = (s .of, refl) }
   says-itself (refused r t) s = record { of = (s .of, refl) }
 
+-- two things said of one question
+pub says-both : {E A : Type 0} {P Q : A → List Vector → Type 0} {F G : E → List Vector → Type 0} (x : Asked E A) → Says P F x → Says Q G x → Says (λ a t. P a t × Q a t) (λ r t. F r t × G r t) x
+says-both (answered a t) s u = record { of = (s .of, u .of) }
+says-both (refused r t) s u = record { of = (s .of, u .of) }
+
 -- one question and then another
 pub says-bind : {E A B : Type 0} {P : A → List Vector → Type 0} {G : E → List Vector → Type 0} {Q : B → List Vector → Type 0} {F : E → List Vector → Type 0} (x : Asked E A) (k : A → Asked E B)
     → Says P G x → ((r : E) (t : List Vector) → G r t → F r t) → ((a : A) (t : List Vector) → P a t → Says (λ b s. Q b (t ++ s)) (λ r s. F r (t ++ s)) (k a)) → Says Q F (x >>= k)

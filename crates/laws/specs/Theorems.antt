@@ -1,4 +1,4 @@
--- What holds on every solid, wedge or stack, for every pick: the statements. The proofs are in the modules beside.
+-- What holds on every solid, wedge or stack, for every pick and every quick touch: the statements. The proofs are in the modules beside.
 use mathlib.Core.Path.{_≡_, refl, sym, ap, subst, _∙_}
 use mathlib.Core.Bool.{false, not}
 use mathlib.Core.List.{List, []}
@@ -24,11 +24,13 @@ use Rattle.rules.specs.declared.Accepted.{Accepted as AcceptedPick}
 use Rattle.rules.specs.declared.Refused.{Refused as RefusedPick}
 use Rattle.rules.specs.declared.Pick.{Pick}
 use Rattle.rules.specs.declared.Pick.the-variants.{Accepted, Refused}
+use Rattle.rules.specs.declared.Touch.the-variants.{Guess, Refused as TouchRefused}
 use Rattle.rules.specs.Vectors.{_⊕_, scale, dot, lay}
 use Rattle.rules.specs.Solids.{box, inBox, permitted, look}
 use Rattle.rules.specs.Asked.{answered}
-use Rattle.rules.specs.Walk.{signs, powers, Axis, axis0, axis1, axis2, unit, units, vectorOf, pairs, second, way, step, levels, level, keep, only, remaining, takesPart, determinant, inside, choice, Probe, laid, falling, round, walk}
+use Rattle.rules.specs.Walk.{signs, powers, Axis, axis0, axis1, axis2, unit, units, vectorOf, pairs, second, way, step, levels, level, keep, only, remaining, takesPart, determinant, inside, choice, Probe, corner, laid, falling, round, walk}
 use Rattle.rules.specs.Pick.{isInside, probe, pick, pickOf}
+use Rattle.rules.specs.Touch.{nearer, touchOf}
 use Rattle.laws.specs.Tests.{In}
 use Rattle.laws.specs.Parts.{NonNegative, Positive, part, parts-by}
 use Rattle.laws.specs.Triples.{All, all-by, detOf, step-det}
@@ -57,6 +59,11 @@ use Rattle.laws.specs.BothWays.{BothWays, parts-levels, levels-looked, s
 use Rattle.laws.specs.Picks.{Accepting}
 use Rattle.laws.specs.Answers as Answers
 use Rattle.laws.specs.Answers.{stepsOf, looksOf, foundOf, stopOf, voxels-counted, accepted-answer, accepted-tells, refused-tells, few-steps, accepting-determinant, accepting-products, accepting-generated, accepting-signs, accepting-steps, accepting-stays, accepting-axes}
+use Rattle.laws.specs.Corners as Corners
+use Rattle.laws.specs.Corners.{CornerEmpty, nth}
+use Rattle.laws.specs.Touches.{NextTouch}
+use Rattle.laws.specs.Touched as Touched
+use Rattle.laws.specs.Touched.{unmarked}
 use Rattle.laws.specs.Stacks as Stacks
 
 -- ---- the powers are 1, 2, 4, .. up to the first that is at least R
@@ -257,6 +264,47 @@ module _ (solid : Solid) (bytes : List ℕ) (p : Vector) (frame reach : ℤ) whe
   pub refused-outside : (r : RefusedPick) → pickOf solid bytes p frame reach ≡ Refused r → r .number ≡ 8 → T (not (inBox (box solid) (r .place)))
   refused-outside r is e = outside-box solid bytes (r .place) (refused-next r is e .outside)
 
--- ---- on a stack no reach above 64 is accepted
+  -- the refusals of a pick are 1 to 10
+  pub refused-number : (r : RefusedPick) → pickOf solid bytes p frame reach ≡ Refused r → (1 ≤ r .number) × (r .number ≤ 10)
+  refused-number r is = refused-tells solid bytes p frame reach r is .known
+
+  -- ---- the quick touch, with the corner of each axis: q less its unit vector, laid in
+  abbrev d : Probe
+  d = nearer (probe (look solid bytes) p frame reach)
+
+  -- where p and q lie in the box each corner does, so none gives 8
+  pub corner-inside : T (isInside (look solid bytes p)) → T (isInside (look solid bytes (d .apex))) → (k : Axis) → T (isInside (look solid bytes (corner d (unit k))))
+  corner-inside = Corners.corner-inside solid bytes p s
+
+  -- at most R - 3 steps, and six looks for each round after the first five; all of them where it is accepted
+  pub touch-steps-at-most : stepsOf (unmarked (touchOf solid bytes p frame reach)) ≤ natAbs reach - 3
+  touch-steps-at-most = Touched.few-steps solid bytes p frame reach
+
+  pub touch-looks-at-most : looksOf (unmarked (touchOf solid bytes p frame reach)) ≤ 5 + 6 * suc (stepsOf (unmarked (touchOf solid bytes p frame reach)))
+  touch-looks-at-most = Touched.few-looks solid bytes p frame reach
+
+  pub touch-looks-at-most-1529 : looksOf (unmarked (touchOf solid bytes p frame reach)) ≤ 1529
+  touch-looks-at-most-1529 = Touched.most-looks solid bytes p frame reach
+
+  pub guess-looks : (a : AcceptedPick) → touchOf solid bytes p frame reach ≡ Guess a → a .looks ≡ 5 + 6 * suc (a .steps)
+  guess-looks = Touched.guess-looks solid bytes p frame reach
+
+  module _ (r : RefusedPick) (is : touchOf solid bytes p frame reach ≡ TouchRefused r) where
+    -- 1 to 11, and 7 isn't given
+    pub touch-number : (1 ≤ r .number) × (r .number ≤ 11) × (r .number ≡ 7 → ⊥)
+    touch-number = Touched.refused-known solid bytes p frame reach r is
+
+    -- 8 is given at the way of a pair, from q, that was to be looked at next and lies outside the box: never at a corner
+    pub touch-next : r .number ≡ 8 → NextTouch d (stopOf r)
+    touch-next = Touched.refused-next solid bytes p frame reach r is
+
+    pub touch-outside : r .number ≡ 8 → T (not (inBox (box solid) (r .place)))
+    touch-outside e = outside-box solid bytes (r .place) (touch-next e .outside)
+
+    -- 11 at the lowest corner that isn't filled, after the looks at p, q and the corners up to it
+    pub touch-corner : r .number ≡ 11 → (h : CornerEmpty d (stopOf r)) × (r .looks ≡ 2 + nth (h .axis))
+    touch-corner = Touched.refused-corner solid bytes p frame reach r is
+
+-- ---- on a stack no pick of a reach above 64 is accepted
 pub stack-reach : (stack : Stack) (bytes : List ℕ) (p : Vector) (frame reach : ℤ) (a : AcceptedPick) → pickOf (IsStack stack) bytes p frame reach ≡ Accepted a → reach ≤ℤ pos 64
 stack-reach = Stacks.stack-reach

@@ -2,8 +2,11 @@
 use lib.IntN.{pos, natAbs}
 use lib.Ieee.{Float, fin}
 use mathlib.Core.Bool.{false}
+use Prim.Native.Nat.{ℕ}
 use Rattle.rules.specs.declared.Pick.{Pick}
 use Rattle.rules.specs.declared.Pick.the-variants.{Accepted, Refused}
+use Rattle.rules.specs.declared.Touch.{Touch}
+use Rattle.rules.specs.declared.Touch.the-variants.{Guess, Refused as TouchRefused}
 use Rattle.rules.specs.declared.Display.{Display}
 use Rattle.rules.specs.declared.Display.the-variants.{Lit, Unlit}
 use Rattle.rules.specs.declared.Reading.{Reading}
@@ -12,6 +15,7 @@ use Rattle.rules.specs.declared.Writing.{Writing}
 use Rattle.rules.specs.declared.Writing.the-variants.{Written, Unwritten}
 use Rattle.rules.specs.Vectors.{origin}
 use Rattle.panel.specs.declared.FlatPick.{FlatPick}
+use Rattle.panel.specs.declared.FlatTouch.{FlatTouch}
 use Rattle.panel.specs.declared.FlatReading.{FlatReading}
 use Rattle.panel.specs.declared.FlatWriting.{FlatWriting}
 use Rattle.panel.specs.declared.FlatDisplay.{FlatDisplay}
@@ -40,6 +44,25 @@ flatPick (Refused r) = record {
   m2 = origin;
   apex = origin;
 }
+
+-- guess is 1 when number is 0, else 0; otherwise as a pick's
+abbrev pub withGuess : ℕ → FlatPick → FlatTouch
+withGuess guess r = record {
+  number = r .number;
+  guess = guess;
+  place = r .place;
+  steps = r .steps;
+  looks = r .looks;
+  normal = r .normal;
+  m0 = r .m0;
+  m1 = r .m1;
+  m2 = r .m2;
+  apex = r .apex;
+}
+
+abbrev pub flatTouch : Touch → FlatTouch
+flatTouch (Guess a) = withGuess 1 (flatPick (Accepted a))
+flatTouch (TouchRefused r) = withGuess 0 (flatPick (Refused r))
 
 -- +0
 abbrev pub plusZero : Float

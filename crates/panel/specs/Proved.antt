@@ -16,7 +16,7 @@ use Rattle.panel.specs.declared.FlatPick.{FlatPick}
 use Rattle.panel.specs.Flat.{flatPick}
 use Rattle.panel.specs.Demands.{FlatDemanded, FlatSame, Called, wedgeCalled, stackCalled, HostDemand, HostDemand3, HostBaseDemand3}
 
-called : {i : Inputs} {r : FlatPick} → Called i r → r ≡ flatPick (pickAt i)
+pub called : {i : Inputs} {r : FlatPick} → Called i r → r ≡ flatPick (pickAt i)
 called (wedgeCalled wedge p frame reach e h) = h .is ∙ ap (λ (i : Inputs). flatPick (pickAt i)) (sym e)
 called (stackCalled stack bytes p frame reach e h) = h .is ∙ ap (λ (i : Inputs). flatPick (pickAt i)) (sym e)
 
@@ -26,11 +26,11 @@ module _ (A : AcceptedPick → Type 0) (i : Inputs) where
   flat (Refused r) h = inr (record { demanded = h; noNormal = refl; noTriangle = (refl, refl, refl); noApex = refl })
 
   -- number 0 is no refusal
-  accepted : (x : Pick) → OneOf A (RefusedOutside i) x → flatPick x .number ≡ 0 → (a : AcceptedPick) × (x ≡ Accepted a)
+  pub accepted : (x : Pick) → OneOf A (RefusedOutside i) x → flatPick x .number ≡ 0 → (a : AcceptedPick) × (x ≡ Accepted a)
   accepted (Accepted a) h e = (a, refl)
   accepted (Refused r) h e = absurd (omega (arith, h .isEight, e))
 
-same-flat : (a b : AcceptedPick) → Same a b → FlatSame (flatPick (Accepted a)) (flatPick (Accepted b))
+pub same-flat : (a b : AcceptedPick) → Same a b → FlatSame (flatPick (Accepted a)) (flatPick (Accepted b))
 same-flat a b h = record {
   normals = h .normals;
   triangles = (ap (λ (m : Triangle). m .m0) (h .triangles), ap (λ (m : Triangle). m .m1) (h .triangles), ap (λ (m : Triangle). m .m2) (h .triangles));

@@ -7,16 +7,23 @@ use Rattle.rules.specs.declared.Vector.{Vector}
 use Rattle.rules.specs.declared.Wedge.{Wedge}
 use Rattle.rules.specs.declared.Stack.{Stack}
 use Rattle.panel.specs.declared.FlatPick.{FlatPick}
+use Rattle.panel.specs.declared.FlatTouch.{FlatTouch}
 use Rattle.panel.specs.declared.FlatReading.{FlatReading}
 use Rattle.panel.specs.declared.FlatWriting.{FlatWriting}
 use Rattle.panel.specs.declared.FlatDisplay.{FlatDisplay}
-use Rattle.panel.specs.Promises.{PickedWedge, PickedStack, ReadP4, WroteP4, Displayed}
+use Rattle.panel.specs.Promises.{PickedWedge, PickedStack, TouchedWedge, TouchedStack, ReadP4, WroteP4, Displayed}
 
 pub picked-wedge-settled : {w : Wedge} {p : Vector} {frame reach : ℤ} {a b : FlatPick} → PickedWedge w p frame reach a → PickedWedge w p frame reach b → a ≡ b
 picked-wedge-settled h k = h .is ∙ sym (k .is)
 
 pub picked-stack-settled : {s : Stack} {bytes : List ℕ} {p : Vector} {frame reach : ℤ} {a b : FlatPick} → PickedStack s bytes p frame reach a → PickedStack s bytes p frame reach b → a ≡ b
 picked-stack-settled h k = h .is ∙ sym (k .is)
+
+pub touched-wedge-settled : {w : Wedge} {p : Vector} {frame reach : ℤ} {a b : FlatTouch} → TouchedWedge w p frame reach a → TouchedWedge w p frame reach b → a ≡ b
+touched-wedge-settled h k = h .is ∙ sym (k .is)
+
+pub touched-stack-settled : {s : Stack} {bytes : List ℕ} {p : Vector} {frame reach : ℤ} {a b : FlatTouch} → TouchedStack s bytes p frame reach a → TouchedStack s bytes p frame reach b → a ≡ b
+touched-stack-settled h k = h .is ∙ sym (k .is)
 
 pub read-p4-settled : {src before a b : List ℕ} {q r : FlatReading} → ReadP4 src before a q → ReadP4 src before b r → (q ≡ r) × (a ≡ b)
 read-p4-settled h k = (h .answers ∙ sym (k .answers), h .leaves ∙ sym (k .leaves))

@@ -1,12 +1,13 @@
 // The panel's C interface (include/ulgenzhir.h): thin over the core, each answer flattened by a definition of `specs/Flat.antt`.
 ghost use mathlib.Core.Path.{_≡_};
-ghost use Rattle.panel.specs.Promises.{wedge, stack, PickedWedge, PickedStack, ReadP4, WroteP4, Displayed};
+ghost use Rattle.panel.specs.Promises.{wedge, stack, PickedWedge, PickedStack, TouchedWedge, TouchedStack, ReadP4, WroteP4, Displayed};
 ghost use Rattle.rules.specs.Vectors.{vector};
-ghost use Rattle.panel.specs.Flat.{flatPick, flatDisplay, flatReading, flatWriting};
+ghost use Rattle.panel.specs.Flat.{flatPick, withGuess, flatTouch, flatDisplay, flatReading, flatWriting};
 use rules::Display;
 use rules::Pick;
 use rules::Reading;
 use rules::Stack;
+use rules::Touch;
 use rules::Vector;
 use rules::Wedge;
 use rules::Writing;
@@ -16,6 +17,20 @@ use rules::Writing;
 #[repr(C)]
 pub struct FlatPick {
     pub number: u32,
+    pub place: Vector,
+    pub steps: u32,
+    pub looks: u32,
+    pub normal: Vector,
+    pub m0: Vector,
+    pub m1: Vector,
+    pub m2: Vector,
+    pub apex: Vector,
+}
+
+#[repr(C)]
+pub struct FlatTouch {
+    pub number: u32,
+    pub guess: u32,
     pub place: Vector,
     pub steps: u32,
     pub looks: u32,
@@ -92,6 +107,38 @@ fn flatten_pick(answer: Pick) -> FlatPick
     }
 }
 
+fn with_guess(guess: u32, answer: FlatPick) -> FlatTouch
+    ensures { λ r. ⌜ r ≡ withGuess guess answer ⌝ }
+{
+    let place = answer.place;
+    let normal = answer.normal;
+    let m0 = answer.m0;
+    let m1 = answer.m1;
+    let m2 = answer.m2;
+    let apex = answer.apex;
+    FlatTouch {
+        number: answer.number,
+        guess: guess,
+        place: place,
+        steps: answer.steps,
+        looks: answer.looks,
+        normal: normal,
+        m0: m0,
+        m1: m1,
+        m2: m2,
+        apex: apex,
+    }
+}
+
+fn flatten_touch(answer: Touch) -> FlatTouch
+    ensures { λ r. ⌜ r ≡ flatTouch answer ⌝ }
+{
+    match answer {
+        Touch::Guess(a) => with_guess(1, flatten_pick(Pick::Accepted(a))),
+        Touch::Refused(r) => with_guess(0, flatten_pick(Pick::Refused(r))),
+    }
+}
+
 fn flatten_reading(answer: Reading) -> FlatReading
     ensures { λ r. ⌜ r ≡ flatReading answer ⌝ }
 {
@@ -149,6 +196,12 @@ fn flatten_display(answer: Display) -> FlatDisplay
 
 // ---- the interface
 
+fn point(x: i32, y: i32, z: i32) -> Vector
+    ensures { λ r. ⌜ r ≡ vector x y z ⌝ }
+{
+    Vector { x: x, y: y, z: z }
+}
+
 #[no_mangle]
 pub extern "C" fn ulgenzhir_pick_wedge(
     a: i32,
@@ -169,11 +222,7 @@ pub extern "C" fn ulgenzhir_pick_wedge(
         c: c,
         h: h,
     };
-    let p = Vector {
-        x: px,
-        y: py,
-        z: pz,
-    };
+    let p = point(px, py, pz);
     flatten_pick(pick::pick_wedge(w, p, frame, reach))
 }
 
@@ -196,12 +245,55 @@ pub extern "C" fn ulgenzhir_pick_stack(
         height: height,
         depth: depth,
     };
-    let p = Vector {
-        x: px,
-        y: py,
-        z: pz,
-    };
+    let p = point(px, py, pz);
     flatten_pick(pick::pick_stack(k, bytes, p, frame, reach))
+}
+
+#[no_mangle]
+pub extern "C" fn ulgenzhir_touch_wedge(
+    a: i32,
+    b: i32,
+    c: i32,
+    h: i32,
+    px: i32,
+    py: i32,
+    pz: i32,
+    frame: i32,
+    reach: i32,
+) -> FlatTouch
+    ensures { λ r. ⌜ TouchedWedge (wedge a b c h) (vector px py pz) frame reach r ⌝ }
+{
+    let w = Wedge {
+        a: a,
+        b: b,
+        c: c,
+        h: h,
+    };
+    let p = point(px, py, pz);
+    flatten_touch(pick::touch_wedge(w, p, frame, reach))
+}
+
+#[no_mangle]
+pub extern "C" fn ulgenzhir_touch_stack(
+    width: i32,
+    height: i32,
+    depth: i32,
+    bytes: &[u8],
+    px: i32,
+    py: i32,
+    pz: i32,
+    frame: i32,
+    reach: i32,
+) -> FlatTouch
+    ensures { λ r. ⌜ TouchedStack (stack width height depth) (now (bytes .entry)) (vector px py pz) frame reach r ⌝ }
+{
+    let k = Stack {
+        width: width,
+        height: height,
+        depth: depth,
+    };
+    let p = point(px, py, pz);
+    flatten_touch(pick::touch_stack(k, bytes, p, frame, reach))
 }
 
 #[no_mangle]

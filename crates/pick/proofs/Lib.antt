@@ -1,5 +1,2 @@
--- The frame, the end and the answer, question by question.
-pub mod Frames
-pub mod Ends
-pub mod Ranges
+-- The answer, part by part.
 pub mod Answers

@@ -1,4 +1,4 @@
--- What the pick promises.
-pub mod Pick
+-- What the pick and the quick touch promise.
+pub mod Walk
 pub mod Promises
 pub mod Excluded

@@ -1,5 +1,5 @@
 -- Document 01's cases W1 to W8 (W6 as document 02's 2026-01 has it), with the triangles where it gives them, U1 and U2, level faces and small reaches, lines of a session
--- that need care, and stacks whose comments touch (2026-02): one statement over a list, by evaluation.
+-- that need care, stacks whose comments touch (2026-02), and quick touches (2026-04): one statement over a list, by evaluation.
 use mathlib.Core.Path.{_≡_, refl}
 use mathlib.Core.Bool.{false}
 use mathlib.Core.List.{List, [], _∷_, map}
@@ -12,6 +12,9 @@ use Rattle.rules.specs.declared.Solid.the-variants.{Wedge as IsWedge}
 use Rattle.rules.specs.declared.Triangle.{Triangle}
 use Rattle.rules.specs.declared.Pick.{Pick}
 use Rattle.rules.specs.declared.Pick.the-variants.{Accepted, Refused}
+use Rattle.rules.specs.declared.Touch.{Touch}
+use Rattle.rules.specs.declared.Touch.the-variants.{Guess, Refused as TouchRefused}
+use Rattle.rules.specs.declared.Vector.{Vector}
 use Rattle.rules.specs.declared.Line.{Line}
 use Rattle.rules.specs.declared.Line.the-variants.{Asks, OtherForm}
 use Rattle.rules.specs.declared.Display.{Display}
@@ -19,21 +22,24 @@ use Rattle.rules.specs.declared.Display.the-variants.{Lit}
 use Rattle.rules.specs.Vectors.{vector, _⊕_, _⊖_, minus, scale, dot, cross, det, sphere, lay, size}
 use Rattle.rules.specs.Solids.{between, rowBytes, sliceBytes, permittedWedge, filledWedge, inBox, look}
 use Rattle.rules.specs.Asked.{after, _>>=_}
-use Rattle.rules.specs.Walk.{ensure, sign, signs, seen, asked, powersFrom, powers, triangle, normal, allLevel, keep, only, remaining, takesPart, levelled, determinant, inside, anyInside, firstFree, choice, lookAt, fallsAt, facing, isLevel, axes, start, falling, round, walk, rounds, found, end}
+use Rattle.rules.specs.Walk.{ensure, sign, signs, seen, asked, powersFrom, powers, triangle, normal, allLevel, keep, only, remaining, takesPart, levelled, determinant, inside, anyInside, firstFree, choice, lookAt, fallsAt, facing, isLevel, axes, start, cornersFilled, allCorners, quickStart, falling, round, walk, rounds, found, end}
 use Rattle.rules.specs.Pick.{isInside, placing, judging, pick, answer, pickOf}
+use Rattle.rules.specs.Touch.{touch, marked, touchOf}
 use Rattle.rules.specs.P4.{Judged, good, wrong, _>>=_ as _onward_, judge, stands, isEnd, isWhite, commentAt, white, mix, digitsAt, fieldAt, headerAt, padding, cut, row, rows, imageAt, imagesAt, sizes, Contents, contents}
 use Rattle.rules.specs.Decimals.{isDigit, areDigits, value, figure, digits}
 use Rattle.rules.specs.Display.{largest, sizeOf, component, permittedNormal, light, display}
 use Rattle.rules.specs.Session.{parts, fewDigits, within32, signed, number, next, onlyThese, question, three, counts, toldAccepted, toldRefused, told, reply, replies, session}
 
--- a session; a line of it, for the triangle vectors that its pick ends with; a P4 file; whole numbers to display
+-- a session; a line of it, for the triangle vectors that its pick ends with, for its touch, or for the vectors of that; a P4 file; whole numbers to display
 data Case : Type 0 where
-  prints corners reads : String → Case
+  prints corners touches guesses reads : String → Case
   shows : ℤ → ℤ → ℤ → Case
 
 data Result : Type 0 where
   text : List ℕ → Result
   vectors : Triangle → Result
+  guessed : Vector → ℕ → ℕ → Result
+  refused : ℕ → Vector → ℕ → ℕ → Result
   judged : Judged Contents → Result
   shown : Display → Result
   none : Result
@@ -51,13 +57,27 @@ cornersOf : Line → Result
 cornersOf (Asks q) = vectorsOf (pickOf (IsWedge (q .wedge)) [] (q .p) (q .frame) (q .reach))
 cornersOf OtherForm = none
 
+guessOf : Touch → Result
+guessOf (Guess a) = guessed (a .normal) (a .steps) (a .looks)
+guessOf (TouchRefused r) = refused (r .number) (r .place) (r .steps) (r .looks)
+
+guessVectors : Touch → Result
+guessVectors (Guess a) = vectors (a .triangle)
+guessVectors (TouchRefused r) = none
+
+touchedBy : (Touch → Result) → Line → Result
+touchedBy result (Asks q) = result (touchOf (IsWedge (q .wedge)) [] (q .p) (q .frame) (q .reach))
+touchedBy result OtherForm = none
+
 run : Case → Result
 run (prints input) = text (session (bytes input))
 run (corners line) = cornersOf (question (bytes line))
+run (touches line) = touchedBy guessOf (question (bytes line))
+run (guesses line) = touchedBy guessVectors (question (bytes line))
 run (reads input) = judged (contents (bytes input))
 run (shows x y z) = shown (display x y z)
 
--- what the list expects: a text, the vectors (1,0,0), (-1,1,0), (-2,-1,1), a stack's sizes and rows or a refusal, or sizes over 32768
+-- what the list expects: a text, the vectors (1,0,0), (-1,1,0), (-2,-1,1), a stack's sizes and rows or a refusal, a touch refused at a place, or sizes over 32768
 says : String → Result
 says output = text (bytes output)
 
@@ -69,6 +89,9 @@ holds width height depth rows = judged (good (record { stack = sizes width heigh
 
 refuses : ℕ → ℕ → Result
 refuses number place = judged (wrong number place)
+
+stops : ℕ → ℕ → ℕ → ℕ → ℕ → ℕ → Result
+stops number x y z steps looks = refused number (vector (pos x) (pos y) (pos z)) steps looks
 
 over : ℕ → ℕ → ℕ → Result
 over a b c = shown (Lit record { x = rounded binary32 false a 32768; y = rounded binary32 false b 32768; z = rounded binary32 false c 32768 })
@@ -126,6 +149,24 @@ worked-cases :
     ∷ reads "P4x"
     ∷ reads "P4\n3 2#h\n\u{a0}"
     ∷ reads "P4\n3 2#h\n\u{a0}@P4#z\n3#\n2#\n À"
+    ∷ touches "1 2 5 808 100 100 100 0 8"
+    ∷ guesses "1 2 5 808 100 100 100 0 8"
+    ∷ touches "1 2 5 807 100 100 100 0 8"
+    ∷ touches "1 2 5 801 100 100 100 0 8"
+    ∷ touches "1 1 1 303 100 100 100 0 3"
+    ∷ touches "1 1 1 303 100 100 100 0 2"
+    ∷ touches "0 1 1 202 100 100 100 0 8"
+    ∷ touches "1 0 1 202 100 100 100 0 8"
+    ∷ touches "1 1 0 202 100 100 100 0 8"
+    ∷ touches "2 3 9 1413 100 100 100 0 14"
+    ∷ touches "2 3 9 1414 100 100 100 0 14"
+    ∷ touches "1 2 5 808 100 100 100 0 7"
+    ∷ touches "-1 2 5 608 100 100 100 1 8"
+    ∷ touches "1 1 1 3 0 0 0 0 3"
+    ∷ touches "1 2 5 808 1 1 1 0 8"
+    ∷ touches "2 2 3 706 100 100 100 0 7"
+    ∷ touches "1 2 5 8 0 0 0 0 8"
+    ∷ touches "1 1 1 303 100 100 100 0 0"
     ∷ [])
     ≡ says "N 1 2 5 5 116\n"
     ∷ says "N 1 2 5 5 144\n"
@@ -178,6 +219,24 @@ worked-cases :
     ∷ refuses 22 2
     ∷ refuses 25 10
     ∷ holds 3 2 2 (160 ∷ 64 ∷ 32 ∷ 192 ∷ [])
+    ∷ guessed (vector (pos 1) (pos 2) (pos 5)) 5 41
+    ∷ ends
+    ∷ stops 11 100 101 101 0 3
+    ∷ stops 11 100 101 101 0 3
+    ∷ guessed (vector (pos 1) (pos 1) (pos 1)) 0 11
+    ∷ stops 10 101 101 101 0 11
+    ∷ stops 11 100 101 101 0 3
+    ∷ stops 11 101 100 101 0 4
+    ∷ stops 11 101 101 100 0 5
+    ∷ guessed (vector (pos 1) (pos 1) (pos 4)) 3 29
+    ∷ guessed (vector (pos 2) (pos 3) (pos 9)) 7 53
+    ∷ stops 9 101 101 101 4 35
+    ∷ guessed (vector (negsuc 0) (pos 2) (pos 5)) 5 41
+    ∷ guessed (vector (pos 1) (pos 1) (pos 1)) 0 11
+    ∷ stops 6 2 2 2 0 2
+    ∷ guessed (vector (pos 1) (pos 1) (pos 1)) 0 11
+    ∷ refused 8 (vector (negsuc 0) (pos 2) (pos 1)) 1 11
+    ∷ stops 1 0 0 0 0 0
     ∷ []
-unfolding run bytes cornersOf vectorsOf says ends holds refuses over _⊕_ _⊖_ minus scale dot cross det sphere lay size between permittedWedge filledWedge inBox look after _>>=_ ensure sign signs seen asked powersFrom powers normal allLevel keep only remaining takesPart levelled determinant inside anyInside firstFree choice lookAt fallsAt facing isLevel axes start falling round walk rounds found end isInside placing judging pick answer pickOf isDigit areDigits value figure digits parts fewDigits within32 signed number next onlyThese question three counts toldAccepted toldRefused told reply replies session largest sizeOf component permittedNormal light display rowBytes sliceBytes _onward_ judge stands isEnd isWhite commentAt white mix digitsAt fieldAt headerAt padding cut row rows imageAt imagesAt contents
+unfolding run bytes cornersOf vectorsOf guessOf guessVectors touchedBy says ends holds refuses stops over _⊕_ _⊖_ minus scale dot cross det sphere lay size between permittedWedge filledWedge inBox look after _>>=_ ensure sign signs seen asked powersFrom powers normal allLevel keep only remaining takesPart levelled determinant inside anyInside firstFree choice lookAt fallsAt facing isLevel axes start cornersFilled allCorners quickStart falling round walk rounds found end isInside placing judging pick answer pickOf touch marked touchOf isDigit areDigits value figure digits parts fewDigits within32 signed number next onlyThese question three counts toldAccepted toldRefused told reply replies session largest sizeOf component permittedNormal light display rowBytes sliceBytes _onward_ judge stands isEnd isWhite commentAt white mix digitsAt fieldAt headerAt padding cut row rows imageAt imagesAt contents
 worked-cases = refl

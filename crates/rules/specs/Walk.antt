@@ -1,4 +1,4 @@
--- Document 01, "The probing walk", in its order and words, with document 02's level faces (2026-01), over any solid: the walk knows a solid by its look alone.
+-- Document 01, "The probing walk", in its order and words, with document 02's level faces (2026-01) and the corners of its quick touch (2026-04), over any solid: the walk knows a solid by its look alone.
 -- These are definitions: nothing here is proved.
 use mathlib.Core.Bool.{Bool, true, false, not, _&&_, _||_}
 use mathlib.Core.List.{List, [], _∷_}
@@ -19,7 +19,7 @@ use Rattle.rules.specs.declared.Choice.the-variants.{Nothing, Chosen}
 use Rattle.rules.specs.Vectors.{vector, _⊕_, _⊖_, minus, scale, cross, sphere, lay, size, unit0, unit1, unit2}
 use Rattle.rules.specs.Asked.{Asked, answered, refused, _>>=_, _>>_}
 
--- a pick's refusal: its number, the place returned and the steps so far
+-- the refusal of a pick, or of a quick touch: its number, the place returned and the steps so far
 pub record Stop : Type 0 where
   pub number : ℕ
   pub place : Vector
@@ -47,7 +47,7 @@ seen Filled p = answered true (p ∷ [])
 seen Empty p = answered false (p ∷ [])
 seen Outside p = refused p []
 
--- a point outside the box ends the pick with refusal 8
+-- a point outside the box ends it with refusal 8
 unfoldable pub asked : {A : Type 0} → ℕ → Asked Vector A → Asked Stop A
 asked steps (answered a t) = answered a t
 asked steps (refused p t) = refused (stop 8 p steps) t
@@ -144,6 +144,9 @@ level v axis0 = v .x
 level v axis1 = v .y
 level v axis2 = v .z
 
+abbrev pub noneLevel : Levels
+noneLevel = levels false false false
+
 unfoldable pub allLevel : Levels → Bool
 allLevel v = level v axis0 && (level v axis1 && level v axis2)
 
@@ -213,6 +216,10 @@ pub record Probe : Type 0 where
   pub signs : Vector
   pub powers : List ℕ
 
+-- the same at other powers
+abbrev pub atPowers : List ℕ → Probe → Probe
+atPowers ls c = record { look = c .look; apex = c .apex; signs = c .signs; powers = ls }
+
 -- what the walk's end returns, laid into the box
 pub record Found : Type 0 where
   pub normal : Vector
@@ -243,6 +250,10 @@ module _ (c : Probe) where
     g ← asked 0 (lookAt (c .look) q)
     ensure (not g) (stop 6 q 0)
 
+  -- q less the unit vector e, laid in
+  abbrev pub corner : Vector → Vector
+  corner e = q ⊕ lay s (minus e)
+
   -- 2. ask whether minus an axis's unit vector falls. When it doesn't, its opposite is asked too: refusal 7 if that falls, else the axis is level
   unfoldable pub isLevel : Vector → Asked Stop Bool
   isLevel e = do
@@ -251,7 +262,7 @@ module _ (c : Probe) where
       | true ↦ answered false []
       | false ↦ do
         g ← asked 0 (falls (lay s e))
-        ensure (not g) (stop 7 (q ⊕ lay s (minus e)) 0)
+        ensure (not g) (stop 7 (corner e) 0)
         answered true []
     ]
 
@@ -261,7 +272,7 @@ module _ (c : Probe) where
     x ← isLevel (unit axis0)
     y ← isLevel (unit axis1)
     z ← isLevel (unit axis2)
-    ensure (not (allLevel (levels x y z))) (stop 7 (q ⊕ lay s (minus (unit axis0))) 0)
+    ensure (not (allLevel (levels x y z))) (stop 7 (corner (unit axis0)) 0)
     answered (levels x y z) []
 
   -- 1 and 2: which axes are level
@@ -269,6 +280,25 @@ module _ (c : Probe) where
   start p = do
     facing p
     axes
+
+  -- 2026-04, in the place of 2: the corners of these unit vectors must be filled, lowest first
+  unfoldable pub cornersFilled : List Vector → Asked Stop (Unit {0})
+  cornersFilled [] = answered tt []
+  cornersFilled (e ∷ es) = do
+    f ← asked 0 (lookAt (c .look) (corner e))
+    ensure f (stop 11 (corner e) 0)
+    cornersFilled es
+
+  -- for axis 0, 1, 2. The axis questions go away: no axis is level
+  unfoldable pub allCorners : Asked Stop Levels
+  allCorners = do
+    cornersFilled (unit axis0 ∷ unit axis1 ∷ unit axis2 ∷ [])
+    answered noneLevel []
+
+  unfoldable pub quickStart : Vector → Asked Stop Levels
+  quickStart p = do
+    facing p
+    allCorners
 
   -- 4. all pairs are asked, even after one has fallen
   unfoldable pub falling : Triangle → List Pair → Asked Vector (List Pair)

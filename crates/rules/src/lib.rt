@@ -87,6 +87,13 @@ pub enum Pick {
     Refused(Refused),
 }
 
+// ---- the quick touch's answer: what it accepts is always a guess
+
+pub enum Touch {
+    Guess(Accepted),
+    Refused(Refused),
+}
+
 // ---- the display normal's answer
 
 // Three components for the shader.

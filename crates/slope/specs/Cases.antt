@@ -1,7 +1,7 @@
 -- Demand 3 is not empty: W1, W2, W6, W7, W8, a stack, and wedges that take all the looks allowed. What is assumed of them is proved, the answers are evaluated.
 use mathlib.Core.Path.{_≡_, refl, sym, ap, subst, _∙_}
 use mathlib.Core.Bool.{Bool, true, false, _&&_, Bool·beq}
-use mathlib.Core.List.{[]}
+use mathlib.Core.List.{[], _∷_}
 use Prim.Native.Nat.{ℕ, zero, suc, _*_, _<_}
 use native.Mathlib.Nat as NatL
 use native.Mathlib.Omega.{arith}
@@ -11,6 +11,7 @@ use lib.IntN.{ℤ, pos, negsuc, natAbs, _-ℤ_, _*ℤ_}
 use lib.Signed.{_≤ℤ_, leZ, leZ-yes, ltZ, ltZ-yes}
 use Rattle.integers.specs.Order.{parts}
 use Rattle.integers.specs.Sizes.{product-size}
+use Rattle.integers.specs.Reify.{byring, sides}
 use Rattle.rules.specs.declared.Vector.{Vector}
 use Rattle.rules.specs.declared.Wedge.{Wedge}
 use Rattle.rules.specs.declared.Solid.the-variants.{Wedge as IsWedge, Stack as IsStack}
@@ -18,12 +19,12 @@ use Rattle.rules.specs.declared.Look.the-variants.{Filled, Empty}
 use Rattle.rules.specs.declared.Triangle.{Triangle}
 use Rattle.rules.specs.declared.Pick.{Pick}
 use Rattle.rules.specs.declared.Pick.the-variants.{Accepted, Refused}
-use Rattle.rules.specs.Vectors.{vector, _⊕_, _⊖_, minus, scale, dot, cross, det, sphere, lay, size, origin}
+use Rattle.rules.specs.Vectors.{vector, _⊕_, _⊖_, minus, scale, dot, cross, det, sphere, lay, size, origin, unit0, unit2}
 use Rattle.rules.specs.Solids.{between, permittedWedge, filledWedge, box, inBox, filled, look, rowBytes, sliceBytes, stackBytes, permittedStack, voxel, filledStack}
 use Rattle.rules.specs.Asked.{after, _>>=_}
-use Rattle.rules.specs.Walk.{ensure, sign, signs, seen, asked, powersFrom, powers, Axis, axis0, axis2, normal, allLevel, keep, only, remaining, takesPart, levelled, determinant, inside, anyInside, firstFree, choice, lookAt, fallsAt, facing, isLevel, axes, start, falling, round as roundOf, walk, rounds, found, end}
+use Rattle.rules.specs.Walk.{ensure, sign, signs, seen, asked, powersFrom, powers, normal, allLevel, keep, only, remaining, takesPart, levelled, determinant, inside, anyInside, firstFree, choice, lookAt, fallsAt, facing, isLevel, axes, start, falling, round as roundOf, walk, rounds, found, end}
 use Rattle.rules.specs.Pick.{isInside, placing, judging, pick, answer, pickOf}
-use Rattle.laws.specs.Parts.{part, part-scale, part-origin, vector-eq}
+use Rattle.laws.specs.Parts.{scale-dot, vector-eq}
 use Rattle.laws.specs.Ranges.{Between}
 use Rattle.laws.specs.Boxes.{in-cube}
 use Rattle.slope.specs.Stair.{stair, row, rows, slices, stairBytes}
@@ -31,19 +32,23 @@ use Rattle.slope.specs.Demands.{Inputs, signsOf, pickAt, OnSlope, OnWedg
 use Rattle.slope.specs.Base as Base
 use Rattle.slope.specs.Wedges.{multiple-slope}
 
--- ---- a vector that has 1 or -1 for a component has no common divisor
+-- ---- a vector of which a whole combination of the components is 1 has no common divisor
 factor-of-one : (k y : ℕ) → k * y ≡ 1 → k ≡ 1
 factor-of-one zero y e = absurd (omega arith)
 factor-of-one (suc k) zero e = absurd (omega arith)
 factor-of-one (suc k) (suc y) e = omega (arith, NatL.mul-suc (suc k) y)
 
-module _ (n : Vector) (k : Axis) (one : natAbs (part k n) ≡ 1) where
+origin-dot : (w : Vector) → dot origin w ≡ pos 0
+unfolding dot
+origin-dot w = byring (w .x ∷ w .y ∷ w .z ∷ []) (search sides depth 40 fits 5000) tt
+
+module _ (n w : Vector) (one : dot n w ≡ pos 1) where
   no-divisor : (d : ℤ) (u : Vector) → pos 0 ≤ℤ d → n ≡ scale d u → d ≡ pos 1
-  no-divisor (pos j) u h e = ap pos (factor-of-one j (natAbs (part k u)) (sym (product-size (pos j) (part k u)) ∙ ap natAbs (sym (part-scale k (pos j) u)) ∙ ap (λ (a : Vector). natAbs (part k a)) (sym e) ∙ one))
+  no-divisor (pos j) u h e = ap pos (factor-of-one j (natAbs (dot u w)) (sym (product-size (pos j) (dot u w)) ∙ ap natAbs (sym (scale-dot u w (pos j)) ∙ ap (λ (a : Vector). dot a w) (sym e) ∙ one)))
   no-divisor (negsuc j) u h e = absurd (h .le)
 
   not-all-zero : n ≡ origin → ⊥
-  not-all-zero e = let z : _≡_ {A = ℕ} 0 1 = ap natAbs (sym (part-origin k)) ∙ ap (λ (a : Vector). natAbs (part k a)) (sym e) ∙ one in omega arith
+  not-all-zero e = let z : pos 0 ≡ pos 1 = sym (origin-dot w) ∙ ap (λ (a : Vector). dot a w) (sym e) ∙ one in omega (arith, parts)
 
 -- ---- the outcome of a pick
 data Outcome : Type 0 where
@@ -74,22 +79,22 @@ refuses {n} {t} {i} o e = go (pickAt i) refl e
 abbrev wedgeOf : ℤ → ℤ → ℤ → ℤ → Wedge
 wedgeOf a b c h = record { a = a; b = b; c = c; h = h }
 
--- n has 1 or -1 along k
-on-wedge : (g : ℤ) (k : Axis) {n : Vector} {a b c h : ℤ} {p : Vector} {frame reach : ℤ} → T (between (pos 1) reach (pos 256)) → T (between (pos 0) frame (pos 7)) → T (permittedWedge (wedgeOf a b c h))
+-- n·w = 1
+pub on-wedge : (g : ℤ) (w : Vector) {n : Vector} {a b c h : ℤ} {p : Vector} {frame reach : ℤ} → T (between (pos 1) reach (pos 256)) → T (between (pos 0) frame (pos 7)) → T (permittedWedge (wedgeOf a b c h))
     → T (leZ (pos 0) (lay (signs (natAbs frame)) n .x)) → T (leZ (pos 0) (lay (signs (natAbs frame)) n .y)) → T (leZ (pos 0) (lay (signs (natAbs frame)) n .z))
-    → natAbs (part k n) ≡ 1 → T (leZ (pos (size n)) reach) → T (leZ (pos 1) g) → vector a b c ≡ scale g n
+    → dot n w ≡ pos 1 → T (leZ (pos (size n)) reach) → T (leZ (pos 1) g) → vector a b c ≡ scale g n
     → look (IsWedge (wedgeOf a b c h)) [] p ≡ Filled → look (IsWedge (wedgeOf a b c h)) [] (p ⊕ signs (natAbs frame)) ≡ Empty
     → OnWedge g n (wedgeOf a b c h) p frame reach
-on-wedge g k {n = n} r f ok x y z one fits once multiple filled empty = record {
+on-wedge g w {n = n} r f ok x y z one fits once multiple filled empty = record {
   permitted = record { permittedReach = r; permittedFrame = f; permittedSolid = ok };
-  direction = record { signed = record { ofX = leZ-yes x; ofY = leZ-yes y; ofZ = leZ-yes z }; notAllZero = λ e. absurd (not-all-zero n k one e); noCommonDivisor = λ d u h e. no-divisor n k one d u (omega (arith, parts)) e; withinReach = leZ-yes fits };
+  direction = record { signed = record { ofX = leZ-yes x; ofY = leZ-yes y; ofZ = leZ-yes z }; notAllZero = λ e. absurd (not-all-zero n w one e); noCommonDivisor = λ d u h e. no-divisor n w one d u (omega (arith, parts)) e; withinReach = leZ-yes fits };
   atLeastOnce = leZ-yes once;
   multiple = multiple;
   touched = record { startFilled = filled; apexEmpty = empty };
 }
 
 -- with the ceiling of h/g
-on-line : {g : ℤ} {n : Vector} {t a b c h : ℤ} {p : Vector} {frame reach : ℤ} → OnWedge g n (wedgeOf a b c h) p frame reach → T (leZ h (g *ℤ t)) → T (ltZ (g *ℤ (t -ℤ pos 1)) h) → OnSlope n t (line a b c h p frame reach)
+pub on-line : {g : ℤ} {n : Vector} {t a b c h : ℤ} {p : Vector} {frame reach : ℤ} → OnWedge g n (wedgeOf a b c h) p frame reach → T (leZ h (g *ℤ t)) → T (ltZ (g *ℤ (t -ℤ pos 1)) h) → OnSlope n t (line a b c h p frame reach)
 on-line {t = t} o enough least = multiple-slope _ _ _ _ _ _ o (record { t = t; enough = leZ-yes enough; least = ltZ-yes least })
 
 -- ---- the stair: every voxel of its box is looked up
@@ -131,11 +136,11 @@ stair-below v i =
     subst (λ (u : Vector). filledStack stair stairBytes u ≡ ltZ (dot (at 1) u) (pos 12)) (vector-eq (sym (x .1)) (sym (y .1)) (sym (z .1)))
     (same-bool _ _ (each-below 9 (λ k. agrees (x .0) (y .0) k) (each-below 9 (λ j. allBelow 9 (λ k. agrees (x .0) j k)) (each-below 9 (λ l. allBelow 9 (λ j. allBelow 9 (λ k. agrees l j k))) all-agree (x .0) (x .2)) (y .0) (y .2)) (z .0) (z .2)))
 
-on-stair : OnSlope (at 1) (pos 12) (ofStack stair stairBytes (at 3) (pos 0) (pos 3))
-unfolding between permittedStack stackBytes sliceBytes rowBytes stairBytes slices rows row lay signs sign size look inBox voxel filledStack _⊕_
+pub on-stair : OnSlope (at 1) (pos 12) (ofStack stair stairBytes (at 3) (pos 0) (pos 3))
+unfolding between permittedStack stackBytes sliceBytes rowBytes stairBytes slices rows row dot lay signs sign size look inBox voxel filledStack _⊕_
 on-stair = record {
   permitted = record { permittedReach = tt; permittedFrame = tt; permittedSolid = tt };
-  direction = record { signed = record { ofX = leZ-yes tt; ofY = leZ-yes tt; ofZ = leZ-yes tt }; notAllZero = λ e. absurd (not-all-zero (at 1) axis0 refl e); noCommonDivisor = λ d u h e. no-divisor (at 1) axis0 refl d u (omega (arith, parts)) e; withinReach = leZ-yes tt };
+  direction = record { signed = record { ofX = leZ-yes tt; ofY = leZ-yes tt; ofZ = leZ-yes tt }; notAllZero = λ e. absurd (not-all-zero (at 1) unit0 refl e); noCommonDivisor = λ d u h e. no-divisor (at 1) unit0 refl d u (omega (arith, parts)) e; withinReach = leZ-yes tt };
   filledBelow = stair-below;
   touched = record { startFilled = refl; apexEmpty = refl };
 }
@@ -143,19 +148,19 @@ on-stair = record {
 pub not-empty : NotEmpty
 unfolding outcome _⊕_ _⊖_ minus scale dot cross det sphere lay size between permittedWedge filledWedge inBox look rowBytes voxel filledStack permittedStack stackBytes sliceBytes stairBytes slices rows row after _>>=_ ensure sign signs seen asked powersFrom powers normal allLevel keep only remaining takesPart levelled determinant inside anyInside firstFree choice lookAt fallsAt facing isLevel axes start falling roundOf walk rounds found end isInside placing judging pick answer pickOf accepts
 not-empty = record {
-  W1 = accepts (on-line (on-wedge (pos 1) axis0 tt tt tt tt tt tt refl tt tt refl refl refl) tt tt) refl;
-  W2 = accepts (on-line (on-wedge (pos 1) axis0 tt tt tt tt tt tt refl tt tt refl refl refl) tt tt) refl;
-  W8 = accepts (on-line (on-wedge (pos 1) axis0 tt tt tt tt tt tt refl tt tt refl refl refl) tt tt) refl;
-  twiceW1 = on-wedge (pos 2) axis0 tt tt tt tt tt tt refl tt tt refl refl refl;
-  twiceW1Accepts = accepts (on-line (on-wedge (pos 2) axis0 tt tt tt tt tt tt refl tt tt refl refl refl) tt tt) refl;
+  W1 = accepts (on-line (on-wedge (pos 1) unit0 tt tt tt tt tt tt refl tt tt refl refl refl) tt tt) refl;
+  W2 = accepts (on-line (on-wedge (pos 1) unit0 tt tt tt tt tt tt refl tt tt refl refl refl) tt tt) refl;
+  W8 = accepts (on-line (on-wedge (pos 1) (minus unit0) tt tt tt tt tt tt refl tt tt refl refl refl) tt tt) refl;
+  twiceW1 = on-wedge (pos 2) unit0 tt tt tt tt tt tt refl tt tt refl refl refl;
+  twiceW1Accepts = accepts (on-line (on-wedge (pos 2) unit0 tt tt tt tt tt tt refl tt tt refl refl refl) tt tt) refl;
   onStack = accepts on-stair refl;
-  W7 = refuses (on-line (on-wedge (pos 1) axis0 tt tt tt tt tt tt refl tt tt refl refl refl) tt tt) refl;
-  allThree = accepts (on-line (on-wedge (pos 1) axis0 tt tt tt tt tt tt refl tt tt refl refl refl) tt tt) refl;
-  allTwo = accepts (on-line (on-wedge (pos 1) axis2 tt tt tt tt tt tt refl tt tt refl refl refl) tt tt) refl;
-  allOne = accepts (on-line (on-wedge (pos 1) axis2 tt tt tt tt tt tt refl tt tt refl refl refl) tt tt) refl;
+  W7 = refuses (on-line (on-wedge (pos 1) unit0 tt tt tt tt tt tt refl tt tt refl refl refl) tt tt) refl;
+  allThree = accepts (on-line (on-wedge (pos 1) unit0 tt tt tt tt tt tt refl tt tt refl refl refl) tt tt) refl;
+  allTwo = accepts (on-line (on-wedge (pos 1) unit2 tt tt tt tt tt tt refl tt tt refl refl refl) tt tt) refl;
+  allOne = accepts (on-line (on-wedge (pos 1) unit2 tt tt tt tt tt tt refl tt tt refl refl refl) tt tt) refl;
   allowed = (refl, refl, refl);
-  W6 = accepts (on-line (on-wedge (pos 1) axis2 tt tt tt tt tt tt refl tt tt refl refl refl) tt tt) refl;
-  W6Turned = accepts (on-line (on-wedge (pos 1) axis2 tt tt tt tt tt tt refl tt tt refl refl refl) tt tt) refl;
+  W6 = accepts (on-line (on-wedge (pos 1) unit2 tt tt tt tt tt tt refl tt tt refl refl refl) tt tt) refl;
+  W6Turned = accepts (on-line (on-wedge (pos 1) unit2 tt tt tt tt tt tt refl tt tt refl refl refl) tt tt) refl;
   trianglesDiffer = λ e. let z : pos 1 ≡ negsuc 0 = ap (λ (m : Triangle). m .m0 .x) e in omega (arith, parts);
 }
 

@@ -3,9 +3,10 @@
 use mathlib.Core.Path.{_≡_, refl, _∙_}
 use mathlib.Core.Bool.{Bool, false}
 use mathlib.Core.List.{List, [], _∷_}
-use Prim.Native.Nat.{ℕ, zero, suc, _+_, _≤_}
+use Prim.Native.Nat.{ℕ, zero, suc, _+_, _-_, _≤_}
 use native.Mathlib.Omega.{arith}
 use lib.Dec.{T}
+use lib.ListN.{length}
 use lib.IntN.{ℤ, pos, _+ℤ_, _-ℤ_}
 use lib.Signed.{_≤ℤ_, _<ℤ_, ltZ, ltZ-yes, ltZ-no}
 use Rattle.integers.specs.Reify.{byring, sides}
@@ -16,12 +17,13 @@ use Rattle.rules.specs.declared.Triangle.{Triangle}
 use Rattle.rules.specs.declared.Pair.{Pair}
 use Rattle.rules.specs.declared.Choice.{Choice}
 use Rattle.rules.specs.declared.Choice.the-variants.{Nothing, Chosen}
-use Rattle.rules.specs.Vectors.{_⊖_, dot}
-use Rattle.rules.specs.Walk.{Axis, axis0, axis1, axis2, vectorOf, withVector, pairs, from, first, second, way, step, choice, only, takesPart}
+use Rattle.rules.specs.Vectors.{_⊖_, dot, lay, size}
+use Rattle.rules.specs.Walk.{Axis, axis0, axis1, axis2, vectorOf, withVector, pairs, from, first, second, way, step, units, choice, only, remaining, takesPart}
 use Rattle.laws.specs.Only.{each-both-of, only-holds, only-each, only-none, each-member, taking-in}
 use Rattle.laws.specs.Parts.{dot-difference}
 use Rattle.laws.specs.Triples.{All, all-first, all-second, all-with, detOf, step-det}
-use Rattle.laws.specs.Flat.{Flat, step-flat}
+use Rattle.laws.specs.Levels.{levelsOf}
+use Rattle.laws.specs.Flat.{Flat, raised, step-flat}
 use Rattle.laws.specs.Choosing.{Chose, choice-is, choice-exists}
 
 module _ (n : Vector) (v : Levels) where
@@ -144,3 +146,7 @@ module _ (n : Vector) (v : Levels) where
   pub ideal-goes-on : (r k : ℕ) (m : Triangle) (x : Pair) → Chosen x ≡ idealRound m → ideal (suc r) k m ≡ ideal r (suc k) (step m x)
   unfolding ideal
   ideal-goes-on r k m x e = rw (← e, ideal)
+
+-- ---- the ideal walk of a slope's normal n, in the frame of signs s: with 1 along the axes where n has no part, and as many steps as its size leaves
+abbrev pub idealOf : Vector → Vector → Triangle × ℕ
+idealOf s n = ideal (raised (levelsOf n) (lay s n)) (levelsOf n) (size n - length (remaining (levelsOf n))) 0 units

@@ -1,4 +1,5 @@
--- Demand 3, over document 01's definitions. `Demands` states it in document 02's reading and `Base` in document 01's, `Proved` and `Corollary` prove them; the others are the lemmas, `Stair` an example stack.
+-- Demand 3, over document 01's definitions. `Demands` states it in document 02's reading and `Base` in document 01's, `Proved` and `Corollary` prove them; `Touches` states what is
+-- wanted of quick touches (2026-04), `TouchProved` and `TouchCases` prove it; the others are the lemmas, `Stair` an example stack.
 pub mod Stair
 pub mod Demands
 pub mod Base
@@ -11,3 +12,6 @@ pub mod Wedges
 pub mod Cases
 pub mod Proved
 pub mod Corollary
+pub mod Touches
+pub mod TouchProved
+pub mod TouchCases

@@ -17,7 +17,7 @@ use Rattle.rules.specs.declared.Levels.{Levels}
 use Rattle.rules.specs.declared.Triangle.{Triangle}
 use Rattle.rules.specs.Vectors.{minus, dot, cross, det, lay, size}
 use Rattle.rules.specs.Solids.{between, permitted, look}
-use Rattle.rules.specs.Walk.{Stop, powers, Axis, axis0, axis1, axis2, unit, units, pairs, level, allLevel, only, remaining, takesPart, levelled, normal, Probe, rounds, found}
+use Rattle.rules.specs.Walk.{Stop, stop, powers, Axis, axis0, axis1, axis2, unit, units, pairs, level, allLevel, only, remaining, takesPart, levelled, normal, Probe, atPowers, axes, rounds, found}
 use Rattle.rules.specs.Pick.{isInside, pick}
 use Rattle.laws.specs.Tests.{is-true, is-false, is-not, not-less}
 use Rattle.laws.specs.Parts.{part, part-of, part-origin, vector-by-parts, dot-minus, dot-unit}
@@ -25,19 +25,19 @@ use Rattle.laws.specs.Levels.{remains, remaining-count, at-most-3, pairs-taking
 use Rattle.laws.specs.Flat.{units-flat, raise, raised, Lies}
 use Rattle.laws.specs.Frames.{Signs, signs-are, lay-lay, lay-scale, dot-apex, lay-size, sum-size, lay-part-zero}
 use Rattle.laws.specs.Says.{Says, Few, says-weaker}
-use Rattle.laws.specs.Looks.{Fell}
-use Rattle.laws.specs.Next.{LevelsAnswered}
+use Rattle.laws.specs.Looks.{Fell, StoppedOf}
+use Rattle.laws.specs.Next.{LevelsAnswered, Reached}
 use Rattle.laws.specs.Axes.{FellAlong, AxisOf, AxesOf, levels-answered, AxisRule, axes-says}
 use Rattle.laws.specs.Powers.{powers-reach, up-to-reaches, looks-add-up}
 use Rattle.laws.specs.Walks.{walk-says}
 use Rattle.laws.specs.Boxes.{look-as}
-use Rattle.laws.specs.PickRule.{PickRule, pick-by-rule}
+use Rattle.laws.specs.PickRule.{InputRule, PickRule, pick-by-rule}
 use Rattle.range.specs.Ranges.{between-naturals}
 use Rattle.slope.specs.Demands.{Inputs, signsOf, probeAt, powersOf, remainingOf, OnSlope}
 use Rattle.slope.specs.Falls.{Near, fell-is}
-use Rattle.slope.specs.Ideal.{ideal, Upright, heights, Even, ideal-even}
+use Rattle.slope.specs.Ideal.{Upright, heights, Even, ideal-even, idealOf}
 use Rattle.slope.specs.Ends.{at-least-1, multiple, is-normal}
-use Rattle.slope.specs.Rounds.{Edge, slope-walk}
+use Rattle.slope.specs.Rounds.{Edge, edge-sideways, slope-walk}
 
 -- ---- numbers
 -- minus a part that is not below 0 is below 0 exactly if it is not 0
@@ -100,15 +100,15 @@ module _ (n : Vector) (t : ℤ) (i : Inputs) (o : OnSlope n t i) where
   H = raised (levelsOf n) (lay (signsOf i) n)
 
   abbrev pub ideally : Triangle × ℕ
-  ideally = ideal (raised (levelsOf n) (lay (signsOf i) n)) (levelsOf n) (size n - remainingOf n) 0 units
+  ideally = idealOf (signsOf i) n
 
   g : Signs s
   g = signs-are _
 
-  upward : (k : Axis) → pos 0 ≤ℤ part k N
+  pub upward : (k : Axis) → pos 0 ≤ℤ part k (lay (signsOf i) n)
   upward k = part-of (o .direction .signed) k
 
-  level-is : (k : Axis) → level v k ≡ isZero (part k N)
+  pub level-is : (k : Axis) → level (levelsOf n) k ≡ isZero (part k (lay (signsOf i) n))
   level-is k = levels-of n k ∙ sym (lay-part-zero s n g k)
 
   lies : Lies v N
@@ -132,10 +132,10 @@ module _ (n : Vector) (t : ℤ) (i : Inputs) (o : OnSlope n t i) where
   fits : w ≤ R
   fits = omega (arith, parts, o .direction .withinReach, between-naturals 1 256 (i .reach) (o .permitted .permittedReach) .2)
 
-  below : (v : Vector) → lookOf v ≡ Filled → dot n v <ℤ t
+  pub below : (v : Vector) → look (i .solid) (i .bytes) v ≡ Filled → dot n v <ℤ t
   below v e = let f = look-as (i .solid) (i .bytes) v true e in ltZ-yes (rw (sym (o .filledBelow v (f .0)) ∙ f .1) tt)
 
-  above : (v : Vector) → lookOf v ≡ Empty → t ≤ℤ dot n v
+  pub above : (v : Vector) → look (i .solid) (i .bytes) v ≡ Empty → t ≤ℤ dot n v
   above v e = let f = look-as (i .solid) (i .bytes) v false e in ltZ-no (rw (sym (o .filledBelow v (f .0)) ∙ f .1) tt)
 
   near : Near c n t R
@@ -175,8 +175,19 @@ module _ (n : Vector) (t : ℤ) (i : Inputs) (o : OnSlope n t i) where
       let one = o .direction .noCommonDivisor _ _ (at-least-1 N v lies (ideally .0) end-even k (low .1)) n-multiple in
       ap (lay s) (is-normal N v lies (ideally .0) end-even k (low .1) one) ∙ lay-lay s n g
 
-  end-fits : T (leb (size (levelled v (normal (ideally .0)))) R)
+  pub end-fits : T (leb (size (levelled (levelsOf n) (normal (ideally .0)))) (natAbs (i .reach)))
   end-fits = rw (← lay-size s (levelled v (normal (ideally .0))) g, end-normal) (le→leb w R fits)
+
+  -- ---- the rounds, at any powers that reach the plane; F holds of refusal 8
+  pub rounds-ideal : (ls : List ℕ) (far : ℕ) → Near (atPowers ls (probeAt i)) n t far → {F : Stop → Type 0}
+      → ((k : ℕ) (m : Triangle) (p : Vector) → Reached (atPowers ls (probeAt i)) (only (takesPart (levelsOf n)) pairs) k m
+      → StoppedOf (atPowers ls (probeAt i)) m (only (takesPart (levelsOf n)) pairs) p → F (stop 8 p k))
+      → Says (Few (suc (size n - remainingOf n) * (length (only (takesPart (levelsOf n)) pairs) * length ls)) (λ e. e ≡ ideally)) (λ e l. F e) (rounds (atPowers ls (probeAt i)) (natAbs (i .reach)) (levelsOf n))
+  unfolding rounds
+  rounds-ideal ls far close beyond =
+      says-weaker _ (λ e l h. h) (λ e l h. h .holds)
+      (walk-says _ (only (takesPart v) pairs) (slope-walk close v lies beyond ideally) (R - r) (w - r) 0 units
+      (record { enough = omega (arith, fits); upright = upright; lower = begin; same = refl; reached = refl }))
 
   -- ---- the axes: each is level exactly if n has no part along it
   minus-fell : (k : Axis) (b : Bool) → Fell c (minus (unit k)) b → b ≡ not (level v k)
@@ -227,11 +238,7 @@ module _ (n : Vector) (t : ℤ) (i : Inputs) (o : OnSlope n t i) where
       (e, subst (LevelsAnswered c) e (levels-answered c h), omega (arith, j))
 
   rounds-say : LevelsAnswered c v → Says (Few M (λ e. e ≡ ideally)) (λ e l. EdgeHere e) (rounds c R v)
-  unfolding rounds
-  rounds-say asked =
-      says-weaker _ (λ e l h. h) (λ e l h. h .holds)
-      (walk-says c (only (takesPart v) pairs) (slope-walk near v lies asked ideally) (R - r) (w - r) 0 units
-      (record { enough = omega (arith, fits); upright = upright; lower = begin; same = refl; reached = refl }))
+  rounds-say asked = rounds-ideal (powers R) R near (edge-sideways v asked)
 
   rounds-of : (a : Levels) (l : List Vector) → Level a l → Says (λ e k. Ended a e (l ++ k)) (λ e k. EdgeHere e) (rounds c R a)
   rounds-of a l h = rw (h .0) (says-weaker _ (λ e k j. (refl, record { holds = j .holds; few = rw (length-append l k) (all-few (length l) (length k) (h .2) (j .few)) })) (λ e k j. j) (rounds-say (h .1)))
@@ -239,9 +246,10 @@ module _ (n : Vector) (t : ℤ) (i : Inputs) (o : OnSlope n t i) where
   same-found : {a : Levels} {e : Triangle × ℕ} → a ≡ v → e ≡ ideally → found c a e ≡ found c v ideally
   same-found h k = λ j. found c (h j) (k j)
 
-  slope-pick : PickRule (permitted (i .solid) (i .bytes)) lookOf (i .start) (i .frame) (i .reach) Level Ended (Few fewest (λ f. f ≡ found c v ideally)) (λ e l. EdgeHere e)
+  -- none of the refusals 1 to 6
+  pub good-inputs : {Stops : Stop → List Vector → Type 0} → InputRule (permitted (i .solid) (i .bytes)) (look (i .solid) (i .bytes)) (i .start) (i .frame) (i .reach) Stops
   unfolding isInside
-  slope-pick = record {
+  good-inputs = record {
     one = λ z. absurd (T-not (between (pos 1) (i .reach) (pos 256)) z (o .permitted .permittedReach));
     two = λ z. absurd (T-not (between (pos 0) (i .frame) (pos 7)) z (o .permitted .permittedFrame));
     three = λ z. absurd (T-not (permitted (i .solid) (i .bytes)) z (o .permitted .permittedSolid));
@@ -249,10 +257,17 @@ module _ (n : Vector) (t : ℤ) (i : Inputs) (o : OnSlope n t i) where
     fourApex = λ z. absurd (T-not (isInside (lookOf (c .apex))) z (rw (o .touched .apexEmpty) tt));
     five = λ _ e. absurd (let k = sym e ∙ o .touched .startFilled in let z : _≡_ {A = ℕ} 0 1 = cc in omega arith);
     six = λ _ _ e. absurd (let k = sym e ∙ o .touched .apexEmpty in let z : _≡_ {A = ℕ} 0 1 = cc in omega arith);
-    axesSay = λ _. says-weaker _ (λ a l h. levels-say a l (h .0) (h .1)) (λ e l h. h .holds) (axes-says c axis-rule (λ h. absurd (not-all h)));
-    roundsSay = λ _. rounds-of;
-    ten = λ _ a e l h z. absurd (T-not (leb (size (levelled a (normal (e .0)))) R) z (rw (h .0, h .1 .holds) end-fits));
-    ends = λ _ a e l h z. record { holds = same-found (h .0) (h .1 .holds); few = h .1 .few };
+  }
+
+  slope-pick : PickRule (permitted (i .solid) (i .bytes)) lookOf (i .start) (i .frame) (i .reach) (powers R) (axes c) Level Ended (Few fewest (λ f. f ≡ found c v ideally)) (λ e l. EdgeHere e)
+  slope-pick = record {
+    inputs = good-inputs;
+    beginSays = λ _. says-weaker _ (λ a l h. levels-say a l (h .0) (h .1)) (λ e l h. h .holds) (axes-says c axis-rule (λ h. absurd (not-all h)));
+    toTheEnd = λ _ a. record {
+      roundsSay = rounds-of a;
+      ten = λ e l h z. absurd (T-not (leb (size (levelled a (normal (e .0)))) R) z (rw (h .0, h .1 .holds) end-fits));
+      ends = λ e l h z. record { holds = same-found (h .0) (h .1 .holds); few = h .1 .few };
+    };
   }
 
   pub pick-says : Says (Few fewest (λ f. f ≡ found c v ideally)) (λ e l. EdgeHere e) (pick (permitted (i .solid) (i .bytes)) lookOf (i .start) (i .frame) (i .reach))

@@ -24,7 +24,7 @@ use Rattle.laws.specs.Powers.{three-most}
 use Rattle.laws.specs.Boxes.{outside-box}
 use Rattle.laws.specs.Answers.{laid-of, foundOf, AnswerSays, answer-says, laid-products, laid-generated}
 use Rattle.slope.specs.Demands.{Inputs, signsOf, probeAt, powersOf, pickAt, remainingOf, OnSlope, Demanded, Same, Demand3}
-use Rattle.slope.specs.Ideal.{ideal, ideal-steps}
+use Rattle.slope.specs.Ideal.{ideal-steps, idealOf}
 use Rattle.slope.specs.Picks.{some, few, ideally, fewest, end-even, end-normal, pick-says}
 use Rattle.slope.specs.Rounds.{Edge}
 use Rattle.slope.specs.Wedges.{wedge-slope}
@@ -72,10 +72,10 @@ module _ (n : Vector) (t : ℤ) (i : Inputs) (o : OnSlope n t i) where
   stay : (k : Axis) → T (level (levelsOf n) k) → vectorOf (laid (signsOf i) m) k ≡ lay (signsOf i) (unit k)
   stay k h = laid-of (signsOf i) m k ∙ ap (lay (signsOf i)) (flat k h k .own refl)
 
-  products : Products (levelsOf n) n (laid (signsOf i) m)
+  pub products : Products (levelsOf n) n (laid (signsOf i) (ideally n t i o .0))
   products = subst (λ u. Products (levelsOf n) u (laid (signsOf i) m)) (end-normal n t i o) (laid-products (signs-are (natAbs (i .frame))) flat one)
 
-  generate : (v : Vector) → dot n v ≡ pos 0 → Combines (generators (levelsOf n) (laid (signsOf i) m)) v
+  pub generate : (v : Vector) → dot n v ≡ pos 0 → Combines (generators (levelsOf n) (laid (signsOf i) (ideally n t i o .0))) v
   generate v h = laid-generated (signs-are (natAbs (i .frame))) flat one v (rw (end-normal n t i o) h)
 
   few-enough : fewest n t i o ≤ 2 + powersOf i * (6 * size n + 6)
@@ -97,18 +97,14 @@ module _ (n : Vector) (t : ℤ) (i : Inputs) (o : OnSlope n t i) where
       go (Refused r) e h = record { isEight = h .1 .isEight; next = h .1 .next; outside = outside-box (i .solid) (i .bytes) (r .place) (h .1 .next .outside) }
 
 -- ---- two picks with the same signs: the ideal walk knows nothing else
-same-whole : (n : Vector) (c d : Probe) → c .signs ≡ d .signs → (f g : AcceptedPick)
-    → foundOf f ≡ found c (levelsOf n) (ideal (raised (levelsOf n) (lay (c .signs) n)) (levelsOf n) (size n - remainingOf n) 0 units)
-    → foundOf g ≡ found d (levelsOf n) (ideal (raised (levelsOf n) (lay (d .signs) n)) (levelsOf n) (size n - remainingOf n) 0 units) → Same f g
+pub same-whole : (n : Vector) (c d : Probe) → c .signs ≡ d .signs → (f g : AcceptedPick)
+    → foundOf f ≡ found c (levelsOf n) (idealOf (c .signs) n) → foundOf g ≡ found d (levelsOf n) (idealOf (d .signs) n) → Same f g
 unfolding found
 same-whole n c d e f g x y = record {
-  normals = ap (λ (f : Found). f .normal) x ∙ ap (λ s. lay s (levelled (levelsOf n) (normal (walked s .0)))) e ∙ sym (ap (λ (f : Found). f .normal) y);
-  triangles = ap (λ (f : Found). f .triangle) x ∙ ap (λ s. laid s (walked s .0)) e ∙ sym (ap (λ (f : Found). f .triangle) y);
-  steps = ap (λ (f : Found). f .steps) x ∙ ap (λ s. walked s .1) e ∙ sym (ap (λ (f : Found). f .steps) y);
+  normals = ap (λ (f : Found). f .normal) x ∙ ap (λ s. lay s (levelled (levelsOf n) (normal (idealOf s n .0)))) e ∙ sym (ap (λ (f : Found). f .normal) y);
+  triangles = ap (λ (f : Found). f .triangle) x ∙ ap (λ s. laid s (idealOf s n .0)) e ∙ sym (ap (λ (f : Found). f .triangle) y);
+  steps = ap (λ (f : Found). f .steps) x ∙ ap (λ s. idealOf s n .1) e ∙ sym (ap (λ (f : Found). f .steps) y);
 }
-  where
-    walked : Vector → Triangle × ℕ
-    walked s = ideal (raised (levelsOf n) (lay s n)) (levelsOf n) (size n - remainingOf n) 0 units
 
 pub two-picks : (n : Vector) (t u : ℤ) (i j : Inputs) → OnSlope n t i → OnSlope n u j → signsOf i ≡ signsOf j → (a b : AcceptedPick) → pickAt i ≡ Accepted a → pickAt j ≡ Accepted b → Same a b
 two-picks n t u i j o p e a b x y = same-whole n _ _ e a b (is-whole n t i o a x) (is-whole n u j p b y)

@@ -19,7 +19,7 @@ use Rattle.rules.specs.Walk.{Stop, stop, pairs, way, step, keep, only, choice, 
 use Rattle.laws.specs.Tests.{Each}
 use Rattle.laws.specs.Only.{only-holds}
 use Rattle.laws.specs.Flat.{Flat, Lies, raised, raised-way}
-use Rattle.laws.specs.Looks.{FellOf, RoundOf}
+use Rattle.laws.specs.Looks.{FellOf, StoppedOf, RoundOf}
 use Rattle.laws.specs.Next.{LevelsAnswered, Reached, sideways, turn-of, NextLook, next-look}
 use Rattle.laws.specs.Walks.{WalkRule}
 use Rattle.slope.specs.Falls.{Near, fell-is}
@@ -30,8 +30,11 @@ pub record Edge (c : Probe) (r : Stop) : Type 0 where
   pub isEight : r .number ≡ 8
   pub next : NextLook c r
 
+pub edge-sideways : {c : Probe} (v : Levels) → LevelsAnswered c v → (k : ℕ) (m : Triangle) (p : Vector) → Reached c (only (takesPart v) pairs) k m → StoppedOf c m (only (takesPart v) pairs) p → Edge c (stop 8 p k)
+edge-sideways {c} v asked k m p h o = record { isEight = refl; next = next-look c (way m (o .pair)) (sideways v asked m h (o .pair) (turn-of c o) refl) (o .stopped) }
+
 -- ---- rounds
-module _ {c : Probe} {n : Vector} {t : ℤ} {R : ℕ} (near : Near c n t R) (v : Levels) (lies : Lies v (lay (c .signs) n)) (asked : LevelsAnswered c v) where
+module _ {c : Probe} {n : Vector} {t : ℤ} {R : ℕ} (near : Near c n t R) (v : Levels) (lies : Lies v (lay (c .signs) n)) where
   abbrev N : Vector
   N = raised v (lay (c .signs) n)
 
@@ -59,15 +62,17 @@ module _ {c : Probe} {n : Vector} {t : ℤ} {R : ℕ} (near : Near c n t R) (v :
   falls-down : (m : Triangle) (x : Pair) → Flat v m → RoundOf c ps m (Chosen x) → Down N v m x
   falls-down m x f w = rw (← round-ideal m (Chosen x) f w) at (round-down N v m)
 
-  pub slope-walk : (final : Triangle × ℕ) → WalkRule c ps (Kept final) (λ e. e ≡ final) (Edge c)
-  slope-walk final = record {
-    outside = λ left r k m p h o. record { isEight = refl; next = next-look c (way m (o .pair)) (sideways v asked m (h .reached) (o .pair) (turn-of c o) refl) (o .stopped) };
+  -- F holds of refusal 8, given while a pair of the triangle reached was asked
+  pub slope-walk : {F : Stop → Type 0} → ((k : ℕ) (m : Triangle) (p : Vector) → Reached c (only (takesPart v) pairs) k m → StoppedOf c m (only (takesPart v) pairs) p → F (stop 8 p k))
+      → (final : Triangle × ℕ) → WalkRule c (only (takesPart v) pairs) (Kept final) (λ e. e ≡ final) F
+  slope-walk {F} beyond final = record {
+    outside = λ left r k m p h o. beyond k m p (h .reached) o;
     ends = λ left r k m h w. sym (ideal-ends N v r k m (round-ideal m Nothing (h .upright .flat) w)) ∙ h .same;
     stops = stops;
     steps = steps;
   }
     where
-      stops : (r k : ℕ) (m : Triangle) (x : Pair) → Kept final 0 r k m → RoundOf c ps m (Chosen x) → Edge c (stop 9 (c .apex) k)
+      stops : (r k : ℕ) (m : Triangle) (x : Pair) → Kept final 0 r k m → RoundOf c ps m (Chosen x) → F (stop 9 (c .apex) k)
       stops zero k m x h w = absurd (no-step N v m x (h .upright) (falls-down m x (h .upright .flat) w) (h .lower))
       stops (suc r) k m x h w = absurd (omega (arith, h .enough))
 

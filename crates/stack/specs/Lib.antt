@@ -2,4 +2,5 @@
 pub mod Sides
 pub mod Bytes
 pub mod Voxels
+pub mod Alike
 pub mod Settled

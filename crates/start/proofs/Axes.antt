@@ -4,20 +4,17 @@ use mathlib.Core.Path.{_≡_, refl, ap}
 use mathlib.Core.Bool.{Bool, true, false, not, _&&_}
 use Prim.Native.Nat.{ℕ, _+_, _≤_}
 use native.Mathlib.Omega.{arith}
-use lib.Dec.{lit≤}
 use Rattle.rules.specs.declared.Vector.{Vector}
 use Rattle.rules.specs.declared.Levels.{Levels}
 use Rattle.rules.specs.declared.Refused.{Refused}
-use Rattle.rules.specs.Vectors.{_⊕_, minus, lay, unit0, unit1, unit2}
+use Rattle.rules.specs.Vectors.{minus, lay, unit0, unit1, unit2}
 use Rattle.rules.specs.Walk.{levels, allLevel, Probe, falls, isLevel, axes}
 use Rattle.laws.specs.Tally.{Gives, mostLooks, then-yes, then-no, asked-yes, asked-no, ensured, not-ensured, at-once}
 use Rattle.falls.specs.declared.Falls.{Falls}
 use Rattle.falls.specs.declared.Falls.the-variants.{Fell, Kept, Stopped}
-use Rattle.laws.specs.Frames.{Signs}
-use Rattle.laws.specs.Bounds.{Bounded, bounded-is, bounded-wider, bounded-opposite, bounded-lay}
 use Rattle.falls.specs.Falls.{Fallen, fallsTally, fallsLooks}
-use Rattle.falls.specs.Sizes.{signs-bounded}
 use Rattle.walk.specs.Walk.{refusalOf}
+use Rattle.facing.specs.Facing.{CornerAt}
 use Rattle.start.specs.Start.{axisRefusal, levelsJudged, opposite, Opposed, LevelsJudged, MinusAsked, OppositeAsked, AxisJudged, AxesAsked, axisTally, axisLooks}
 use Rattle.start.specs.declared.AxisAnswer.{AxisAnswer}
 use Rattle.start.specs.declared.AxisAnswer.the-variants.{Asked as IsAsked, Refused as AxisRefused}
@@ -66,9 +63,9 @@ module _ {c : Probe} {e : Vector} {f : Falls} where
 
 pub ruleset judging-axis = (axis-fell, axis-kept, axis-stopped)
 
--- ---- refusal 7, from the sum's parts
-pub is-opposed : {q s e u p : Vector} {n : ℕ} {r : Refused} → u ≡ lay s (minus e) → p ≡ q ⊕ u → r ≡ refusalOf 7 p 0 n → Opposed q s e n r
-is-opposed a i l = record { is = rw (← a, ← i) l }
+-- ---- refusal 7, at the corner
+pub is-opposed : {q s e p : Vector} {n : ℕ} {r : Refused} → CornerAt q s e p → r ≡ refusalOf 7 p 0 n → Opposed q s e n r
+is-opposed i l = record { is = rw (← i .is) l }
 
 -- ---- all three level, or not
 not-all : (v : Levels) {b : Bool} → (v .x && (v .y && v .z)) ≡ b → not (allLevel v) ≡ not b
@@ -128,21 +125,3 @@ module _ {c : Probe} {n : ℕ} {f : Falls} {a : AxisAnswer} (hf : MinusAsked c u
           record { gives = then-yes _ (x .gives) (then-yes _ (y .gives) (then-yes _ (z .gives) (o .gives))); few = omega (arith, x .few, y .few, z .few, o .few) }
 
 pub ruleset in-turn = (first-refused, second-refused, third-refused, axes-judged)
-
--- ---- sizes of a unit vector, its opposite, and either laid in
-pub unit-fits : {e : Vector} → Bounded 1 e → Bounded 1000000000 e
-unit-fits h = bounded-wider h (lit≤ tt)
-
-pub unit-way : {e : Vector} → Bounded 1 e → Bounded 2046 e
-unit-way h = bounded-wider h (lit≤ tt)
-
-pub opposite-unit : {e w : Vector} → Bounded 1 e → w ≡ minus e → Bounded 1 w
-opposite-unit h b = bounded-is b (bounded-opposite h)
-
-pub laid-unit : {s e u : Vector} → Signs s → Bounded 1 e → u ≡ lay s e → Bounded 1 u
-laid-unit g h a = bounded-is a (bounded-lay (signs-bounded g) h)
-
-pub laid-opposite : {s e u : Vector} → Signs s → Bounded 1 e → u ≡ lay s (minus e) → Bounded 1 u
-laid-opposite g h a = laid-unit g (bounded-opposite h) a
-
-pub ruleset fitting = (signs-bounded, unit-fits, unit-way, opposite-unit, laid-unit, laid-opposite)

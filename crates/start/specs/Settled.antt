@@ -1,5 +1,6 @@
 -- What `start_at` ensures settles its answer: the start is made again of what it tells.
 use mathlib.Core.Path.{_≡_, refl}
+use mathlib.Core.Bool.{Bool}
 use Rattle.rules.specs.declared.Vector.{Vector}
 use Rattle.rules.specs.declared.Levels.{Levels}
 use Rattle.rules.specs.Walk.{Stop, Probe}
@@ -18,5 +19,5 @@ unfolding made
 made-again (Begun v k) = refl
 made-again (IsRefused r) = refl
 
-pub started-settled : {c : Probe} {p : Vector} {r t : Start} → Started c p r → Started c p t → r ≡ t
+pub started-settled : {quick : Bool} {c : Probe} {p : Vector} {r t : Start} → Started quick c p r → Started quick c p t → r ≡ t
 started-settled {r = r} {t} h k = gives-settled made (made-again r) (made-again t) (h .gives) (k .gives)

@@ -1,6 +1,6 @@
--- The start: what it tells of the two looks, of each axis and of all three.
+-- The start: what it tells of each axis and of all three, and from its beginning.
 use mathlib.Core.Path.{_≡_}
-use mathlib.Core.Bool.{Bool, true, not}
+use mathlib.Core.Bool.{Bool, true, false, not}
 use mathlib.Core.List.{[]}
 use Prim.Native.Nat.{ℕ, _+_, _≤_}
 use Rattle.rules.specs.declared.Vector.{Vector}
@@ -8,11 +8,13 @@ use Rattle.rules.specs.declared.Levels.{Levels}
 use Rattle.rules.specs.declared.Refused.{Refused}
 use Rattle.rules.specs.Vectors.{_⊕_, minus, lay, unit0}
 use Rattle.rules.specs.Asked.{Asked, answered, _>>=_, _>>_}
-use Rattle.rules.specs.Walk.{Stop, stop, ensure, asked, allLevel, Probe, falls, isLevel, axes, start}
+use Rattle.rules.specs.Walk.{Stop, stop, ensure, asked, allLevel, noneLevel, Probe, falls, isLevel, axes, start, quickStart}
 use Rattle.falls.specs.declared.Falls.{Falls}
 use Rattle.laws.specs.Tally.{Tally, yes, Gives, mostLooks}
 use Rattle.falls.specs.Falls.{fallsTally, fallsLooks}
 use Rattle.walk.specs.Walk.{refusalOf, refusalTally}
+use Rattle.facing.specs.declared.Cleared.{Cleared}
+use Rattle.facing.specs.declared.Cleared.the-variants.{Clear, Refused as ClearRefused}
 use Rattle.start.specs.declared.AxisAnswer.{AxisAnswer}
 use Rattle.start.specs.declared.AxisAnswer.the-variants.{Asked as IsAsked, Refused as AxisRefused}
 use Rattle.start.specs.declared.Start.{Start}
@@ -76,6 +78,15 @@ module _ (c : Probe) where
     pub gives : Gives looks (axes c) (startTally r)
     pub few : startLooks r ≤ looks + mostLooks 6
 
-  pub record Started (p : Vector) (r : Start) : Type 0 where
-    pub gives : Gives 0 (start c p) (startTally r)
-    pub few : startLooks r ≤ 2 + mostLooks 6
+-- ---- of a quick touch: once the corners were asked
+abbrev pub quickly : Cleared → Start
+quickly (Clear n) = Begun noneLevel n
+quickly (ClearRefused r) = IsRefused r
+
+abbrev pub startOf : Bool → Probe → Vector → Asked Stop Levels
+startOf true = quickStart
+startOf false = start
+
+pub record Started (quick : Bool) (c : Probe) (p : Vector) (r : Start) : Type 0 where
+  pub gives : Gives 0 (startOf quick c p) (startTally r)
+  pub few : startLooks r ≤ 2 + mostLooks 6

@@ -1,16 +1,15 @@
-// The start: p, q and the axes.
+// The start: p, q and the axes, or the corners.
 ghost use mathlib.Core.Path.{_≡_};
-ghost use Rattle.rules.specs.Vectors.{minus, lay};
 ghost use Rattle.laws.specs.Bounds.{Bounded};
 ghost use Rattle.laws.specs.Frames.{Signs};
 ghost use Rattle.laws.specs.Tally.{Countable};
 ghost use Rattle.falls.specs.Scene.{probeOf, Ready};
 ghost use Rattle.falls.specs.Falls.{fallsLooks};
-ghost use Rattle.start.specs.Start.{Opposed, MinusAsked, OppositeAsked, AxisJudged, LevelsJudged, AxesAsked, Started};
+ghost use Rattle.start.specs.Start.{Opposed, MinusAsked, OppositeAsked, AxisJudged, LevelsJudged, AxesAsked, quickly, Started};
+use facing::Cleared;
 use falls::Falls;
 use falls::Scene;
 use rules::Levels;
-use rules::Look;
 use rules::Refused;
 use rules::Vector;
 
@@ -26,22 +25,12 @@ pub enum Start {
     Refused(Refused),
 }
 
-// Minus the unit vector e, laid in.
-fn lay_minus(s: Vector, e: Vector) -> Vector
-    requires { ⌜ Signs s × Bounded 1 e ⌝ }
-    ensures { λ r. ⌜ r ≡ lay s (minus e) ⌝ }
-{
-    space::lay(s, space::negate(e))
-}
-
 // Refusal 7: q less an axis's unit vector, laid in.
 fn refuse_axis(scene: Scene, e: Vector, looks: u32) -> Refused
     requires { ⌜ Bounded 1000000000 (scene .apex) × Signs (scene .signs) × Bounded 1 e ⌝ }
     ensures { λ r. ⌜ Opposed (scene .apex) (scene .signs) e looks r ⌝ }
 {
-    let q = scene.apex;
-    let s = scene.signs;
-    let place = space::add(q, lay_minus(s, e));
+    let place = facing::corner(scene, e);
     walk::refusal(7, place, 0, looks)
 }
 
@@ -51,7 +40,7 @@ fn ask_minus(scene: Scene, bytes: &[u8], e: Vector, looks: u32) -> Falls
     ensures { λ r. ⌜ MinusAsked (probeOf scene (now (bytes .entry))) e looks r ⌝ }
 {
     let s = scene.signs;
-    let u = lay_minus(s, e);
+    let u = facing::lay_minus(s, e);
     falls::ask_falls(scene, bytes, u, looks)
 }
 
@@ -128,23 +117,36 @@ fn ask_axes(scene: Scene, bytes: &[u8], looks: u32) -> Start
     }
 }
 
-// Look at p, then, if p is filled, q; then the axes.
-pub fn start_at(scene: Scene, bytes: &[u8], p: Vector) -> Start
-    requires { ⌜ Ready scene (now bytes) ⌝ }
-    ensures { λ r. ⌜ Started (probeOf scene (now (bytes .entry))) p r ⌝ }
+// The corners are filled: no axis is level.
+fn start_quickly(cleared: Cleared) -> Start
+    ensures { λ r. ⌜ r ≡ quickly cleared ⌝ }
 {
-    let solid = scene.solid;
-    let q = scene.apex;
-    let at_start = solid::look_at(solid, bytes, p);
-    match at_start {
-        Look::Outside => Start::Refused(walk::refusal(8, p, 0, 0)),
-        Look::Empty => Start::Refused(walk::refusal(5, p, 0, 1)),
-        Look::Filled => {
-            let at_apex = solid::look_at(solid, bytes, q);
-            match at_apex {
-                Look::Outside => Start::Refused(walk::refusal(8, q, 0, 1)),
-                Look::Filled => Start::Refused(walk::refusal(6, q, 0, 2)),
-                Look::Empty => ask_axes(scene, bytes, 2),
+    match cleared {
+        Cleared::Refused(r) => Start::Refused(r),
+        Cleared::Clear(n) => {
+            let none = Levels {
+                x: false,
+                y: false,
+                z: false,
+            };
+            Start::Begun(none, n)
+        }
+    }
+}
+
+// p and q, then the axes; of a quick touch the corners instead.
+pub fn start_at(quick: bool, scene: Scene, bytes: &[u8], p: Vector) -> Start
+    requires { ⌜ Ready scene (now bytes) ⌝ }
+    ensures { λ r. ⌜ Started quick (probeOf scene (now (bytes .entry))) p r ⌝ }
+{
+    let faced = facing::face(scene, bytes, p);
+    match faced {
+        Cleared::Refused(r) => Start::Refused(r),
+        Cleared::Clear(n) => {
+            if quick {
+                start_quickly(facing::ask_corners(scene, bytes, n))
+            } else {
+                ask_axes(scene, bytes, n)
             }
         }
     }

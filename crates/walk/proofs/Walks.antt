@@ -63,7 +63,7 @@ step-sound : {v : Scene} {bytes : List ℕ} (ps : List Pair) {m : Triangle} {x :
 step-sound {v} {bytes} ps {m} {x} h o g =
     let answer = was-answered (round (probeOf v bytes) ps m) g in
     sound-of
-    (chosen-within (v .solid) bytes (v .apex) (v .signs) (v .reach) ps m (yes-true (h .permitted .is)) (yes-true (look-inside (v .solid) bytes (v .apex) ∙ h .placed .is)) (h .signed) x (answer .1)
+    (chosen-within (v .solid) bytes (v .apex) (v .signs) (v .span) ps m (yes-true (h .permitted .is)) (yes-true (look-inside (v .solid) bytes (v .apex) ∙ h .placed .is)) (h .signed) x (answer .1)
     record { of0 = o .in0; of1 = o .in1; of2 = o .in2 })
     (step-det m x ∙ o .unimodular)
 

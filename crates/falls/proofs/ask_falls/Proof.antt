@@ -10,10 +10,10 @@ use Rattle.falls.proofs.ask_falls.Statement.{statement}
 use Rattle.falls.proofs.ask_falls.Tie as tie
 
 abbrev Inv-loop : tie.InvT-loop
-Inv-loop bytes looks solid q reach way₀ power₀ n₀ way power n = Falling (look solid bytes) q way₀ reach looks power n way
+Inv-loop bytes looks solid q span way₀ power₀ n₀ way power n = Falling (look solid bytes) q way₀ span looks power n way
 
 abbrev μ-loop : tie.MeasureT-loop
-μ-loop bytes looks solid q reach way₀ power₀ n₀ way power n = 512 - power
+μ-loop bytes looks solid q span way₀ power₀ n₀ way power n = 512 - power
 
 apex-and-way-fit : tie.Need-add-requires Inv-loop μ-loop
 apex-and-way-fit c κs = (apex-fits (c .before .before .before .pre .0), way-fits (c .loop .inv))

@@ -1,6 +1,7 @@
 -- `start::ask_minus` meets its contract: minus the unit vector, laid in, is what `ask_falls` asks.
 use native.Mathlib.Omega.{arith}
-use Rattle.start.proofs.Axes.{fitting, minus-asked}
+use Rattle.facing.specs.Units.{fitting}
+use Rattle.start.proofs.Axes.{minus-asked}
 use Rattle.start.proofs.ask_minus.Statement.{statement}
 use Rattle.start.proofs.ask_minus.Tie as tie
 

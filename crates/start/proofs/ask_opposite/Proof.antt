@@ -2,7 +2,8 @@
 use native.Mathlib.Omega.{arith}
 use borrow.Author.Needs.{needs}
 use Rattle.falls.specs.Sizes.{apex-fits}
-use Rattle.start.proofs.Axes.{fitting, opposing}
+use Rattle.facing.specs.Units.{fitting}
+use Rattle.start.proofs.Axes.{opposing}
 use Rattle.start.proofs.ask_opposite.Statement.{statement}
 use Rattle.start.proofs.ask_opposite.Tie as tie
 

@@ -1,0 +1,3 @@
+-- The normal, and the answer at the end.
+pub mod Ends
+pub mod Ended

@@ -1,0 +1,3 @@
+-- p and q, and the corners one by one.
+pub mod Facing
+pub mod Corners

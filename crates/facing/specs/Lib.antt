@@ -1,0 +1,4 @@
+-- What the looks at p, q and the corners promise.
+pub mod Facing
+pub mod Units
+pub mod Settled
