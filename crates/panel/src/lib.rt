@@ -194,13 +194,36 @@ fn flatten_display(answer: Display) -> FlatDisplay
     }
 }
 
-// ---- the interface
+// ---- plain numbers as the core has them
+
+fn wedge_of(a: i32, b: i32, c: i32, h: i32) -> Wedge
+    ensures { λ r. ⌜ r ≡ wedge a b c h ⌝ }
+{
+    Wedge {
+        a: a,
+        b: b,
+        c: c,
+        h: h,
+    }
+}
+
+fn stack_of(width: i32, height: i32, depth: i32) -> Stack
+    ensures { λ r. ⌜ r ≡ stack width height depth ⌝ }
+{
+    Stack {
+        width: width,
+        height: height,
+        depth: depth,
+    }
+}
 
 fn point(x: i32, y: i32, z: i32) -> Vector
     ensures { λ r. ⌜ r ≡ vector x y z ⌝ }
 {
     Vector { x: x, y: y, z: z }
 }
+
+// ---- the interface
 
 #[no_mangle]
 pub extern "C" fn ulgenzhir_pick_wedge(
@@ -216,12 +239,7 @@ pub extern "C" fn ulgenzhir_pick_wedge(
 ) -> FlatPick
     ensures { λ r. ⌜ PickedWedge (wedge a b c h) (vector px py pz) frame reach r ⌝ }
 {
-    let w = Wedge {
-        a: a,
-        b: b,
-        c: c,
-        h: h,
-    };
+    let w = wedge_of(a, b, c, h);
     let p = point(px, py, pz);
     flatten_pick(pick::pick_wedge(w, p, frame, reach))
 }
@@ -240,11 +258,7 @@ pub extern "C" fn ulgenzhir_pick_stack(
 ) -> FlatPick
     ensures { λ r. ⌜ PickedStack (stack width height depth) (now (bytes .entry)) (vector px py pz) frame reach r ⌝ }
 {
-    let k = Stack {
-        width: width,
-        height: height,
-        depth: depth,
-    };
+    let k = stack_of(width, height, depth);
     let p = point(px, py, pz);
     flatten_pick(pick::pick_stack(k, bytes, p, frame, reach))
 }
@@ -263,12 +277,7 @@ pub extern "C" fn ulgenzhir_touch_wedge(
 ) -> FlatTouch
     ensures { λ r. ⌜ TouchedWedge (wedge a b c h) (vector px py pz) frame reach r ⌝ }
 {
-    let w = Wedge {
-        a: a,
-        b: b,
-        c: c,
-        h: h,
-    };
+    let w = wedge_of(a, b, c, h);
     let p = point(px, py, pz);
     flatten_touch(pick::touch_wedge(w, p, frame, reach))
 }
@@ -287,11 +296,7 @@ pub extern "C" fn ulgenzhir_touch_stack(
 ) -> FlatTouch
     ensures { λ r. ⌜ TouchedStack (stack width height depth) (now (bytes .entry)) (vector px py pz) frame reach r ⌝ }
 {
-    let k = Stack {
-        width: width,
-        height: height,
-        depth: depth,
-    };
+    let k = stack_of(width, height, depth);
     let p = point(px, py, pz);
     flatten_touch(pick::touch_stack(k, bytes, p, frame, reach))
 }
@@ -313,11 +318,7 @@ pub extern "C" fn ulgenzhir_write_p4(
 ) -> FlatWriting
     ensures { λ r. ⌜ WroteP4 (stack width height depth) (now (bytes .entry)) (now (out .entry)) (now (out .exit)) r ⌝ }
 {
-    let k = Stack {
-        width: width,
-        height: height,
-        depth: depth,
-    };
+    let k = stack_of(width, height, depth);
     flatten_writing(p4_write::write(k, bytes, out))
 }
 

@@ -144,6 +144,7 @@ level v axis0 = v .x
 level v axis1 = v .y
 level v axis2 = v .z
 
+-- no axis
 abbrev pub noneLevel : Levels
 noneLevel = levels false false false
 
@@ -295,6 +296,7 @@ module _ (c : Probe) where
     cornersFilled (unit axis0 ∷ unit axis1 ∷ unit axis2 ∷ [])
     answered noneLevel []
 
+  -- 1, and the corners in the place of 2
   unfoldable pub quickStart : Vector → Asked Stop Levels
   quickStart p = do
     facing p

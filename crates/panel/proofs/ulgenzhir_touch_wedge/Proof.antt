@@ -9,11 +9,11 @@ use Rattle.panel.proofs.ulgenzhir_touch_wedge.Tie as tie
 returns : tie.Need-returns
 returns c =
     let at = c .before .before in
-    let own = at .before .fits in
+    let own = at .before .before .fits in
     record {
       is = c .flatten-touch .ensures
-          ∙ ap flatTouch (rw (at .point .ensures, toZ-ofZ (own .a), toZ-ofZ (own .b), toZ-ofZ (own .c), toZ-ofZ (own .h), toZ-ofZ (own .px), toZ-ofZ (own .py), toZ-ofZ (own .pz), toZ-ofZ (own .frame), toZ-ofZ (own .reach)) at (c .before .touch-wedge .ensures .is));
+          ∙ ap flatTouch (rw (at .point .ensures, at .before .wedge-of .ensures, toZ-ofZ (own .a), toZ-ofZ (own .b), toZ-ofZ (own .c), toZ-ofZ (own .h), toZ-ofZ (own .px), toZ-ofZ (own .py), toZ-ofZ (own .pz), toZ-ofZ (own .frame), toZ-ofZ (own .reach)) at (c .before .touch-wedge .ensures .is));
     }
 
 pub ulgenzhir-touch-wedge-spec : {M : Type 1} → statement M
-ulgenzhir-touch-wedge-spec = tie.close (tie.spec (λ c κs. search needs) (λ c κs. search needs) (λ c κs. search needs) returns)
+ulgenzhir-touch-wedge-spec = tie.close (tie.spec (λ c κs. search needs) (λ c κs. search needs) (λ c κs. search needs) (λ c κs. search needs) returns)
