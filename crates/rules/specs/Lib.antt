@@ -4,6 +4,7 @@ pub mod Solids
 pub mod Asked
 pub mod Walk
 pub mod Pick
+pub mod TwoCalls
 pub mod Touch
 pub mod Decimals
 pub mod P4

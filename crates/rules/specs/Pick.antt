@@ -1,4 +1,4 @@
--- Document 01, "Refusal numbers, in the order they are judged", with document 02's 2026-01: the pick, its answer and its promise, for every input.
+-- Document 01, "Refusal numbers, in the order they are judged", with document 02's 2026-01: the pick, made of the start check (2026-05) and the rounds, its answer and its promise, for every input.
 -- These are definitions: nothing here is proved.
 use mathlib.Core.Path.{_≡_}
 use mathlib.Core.Bool.{Bool, true, false}
@@ -13,6 +13,7 @@ use Rattle.rules.specs.declared.Solid.{Solid}
 use Rattle.rules.specs.declared.Solid.the-variants.{Wedge as IsWedge, Stack as IsStack}
 use Rattle.rules.specs.declared.Look.{Look}
 use Rattle.rules.specs.declared.Look.the-variants.{Filled, Empty, Outside}
+use Rattle.rules.specs.declared.Levels.{Levels}
 use Rattle.rules.specs.declared.Accepted.{Accepted as AcceptedPick}
 use Rattle.rules.specs.declared.Refused.{Refused as RefusedPick}
 use Rattle.rules.specs.declared.Pick.{Pick}
@@ -20,7 +21,7 @@ use Rattle.rules.specs.declared.Pick.the-variants.{Accepted, Refused}
 use Rattle.rules.specs.Vectors.{_⊕_, origin}
 use Rattle.rules.specs.Solids.{between, permitted, look}
 use Rattle.rules.specs.Asked.{Asked, answered, refused, _>>=_, _>>_}
-use Rattle.rules.specs.Walk.{Stop, stop, ensure, signs, powers, Found, Probe, start, rounds, end}
+use Rattle.rules.specs.Walk.{Stop, stop, ensure, signs, powers, Found, Probe, start, toTheEnd}
 
 -- in the box, as the look has it
 unfoldable pub isInside : Look → Bool
@@ -28,9 +29,13 @@ isInside Filled = true
 isInside Empty = true
 isInside Outside = false
 
--- s is the three signs, and the apex is q = p + s
+-- what a walk from the apex q is about: s is the three signs
+abbrev pub probeFrom : (Vector → Look) → Vector → ℤ → ℤ → Probe
+probeFrom look q frame reach = record { look = look; apex = q; signs = signs (natAbs frame); powers = powers (natAbs reach) }
+
+-- the apex is q = p + s
 abbrev pub probe : (Vector → Look) → Vector → ℤ → ℤ → Probe
-probe look p frame reach = let s = signs (natAbs frame) in record { look = look; apex = p ⊕ s; signs = s; powers = powers (natAbs reach) }
+probe look p frame reach = probeFrom look (p ⊕ signs (natAbs frame)) frame reach
 
 -- refusal 4: p outside the box, else q outside it
 unfoldable pub placing : Probe → Vector → Asked Stop (Unit {0})
@@ -38,26 +43,30 @@ placing c p = do
   ensure (isInside (c .look p)) (stop 4 p 0)
   ensure (isInside (c .look (c .apex))) (stop 4 (c .apex) 0)
 
+-- the inputs are judged: whether the solid is permitted, what the walk is about and its start p
+unfoldable pub judging : Bool → Probe → Vector → ℤ → ℤ → Asked Stop (Unit {0})
+judging permitted c p frame reach = do
+  ensure (between (pos 1) reach (pos 256)) (stop 1 origin 0)
+  ensure (between (pos 0) frame (pos 7)) (stop 2 origin 0)
+  ensure permitted (stop 3 origin 0)
+  placing c p
+
 -- over any solid: whether it is permitted, and its look
 module _ (permitted : Bool) (look : Vector → Look) (p : Vector) (frame reach : ℤ) where
   abbrev c : Probe
   c = probe look p frame reach
 
-  -- the inputs are judged
-  unfoldable pub judging : Asked Stop (Unit {0})
-  judging = do
-    ensure (between (pos 1) reach (pos 256)) (stop 1 origin 0)
-    ensure (between (pos 0) frame (pos 7)) (stop 2 origin 0)
-    ensure permitted (stop 3 origin 0)
-    placing c p
+  -- the start check: the inputs are judged, then the start
+  unfoldable pub check : Asked Stop Levels
+  check = do
+    judging permitted c p frame reach
+    start c p
 
-  -- then the start, the rounds and the end
+  -- then the rounds and the end
   unfoldable pub pick : Asked Stop Found
   pick = do
-    judging
-    v ← start c p
-    e ← rounds c (natAbs reach) v
-    end c (natAbs reach) v e
+    v ← check
+    toTheEnd c (natAbs reach) v
 
 -- the answer's two cases: accepted with its record, or refused with number, place and counts
 abbrev pub acceptedAnswer : Found → ℕ → AcceptedPick

@@ -17,7 +17,7 @@ use Rattle.rules.specs.declared.Touch.{Touch}
 use Rattle.rules.specs.declared.Touch.the-variants.{Guess, Refused as TouchRefused}
 use Rattle.rules.specs.Solids.{permitted, look}
 use Rattle.rules.specs.Asked.{Asked, _>>=_, _>>_}
-use Rattle.rules.specs.Walk.{Stop, Probe, atPowers, Found, quickStart, rounds, end}
+use Rattle.rules.specs.Walk.{Stop, Probe, atPowers, Found, quickStart, toTheEnd}
 use Rattle.rules.specs.Pick.{probe, judging, answer}
 
 -- a direction falls only if power 1 is filled
@@ -32,10 +32,9 @@ module _ (permitted : Bool) (look : Vector → Look) (p : Vector) (frame reach :
   -- the inputs are judged as a pick's; steps, choice and last tests are those of the long walk
   unfoldable pub touch : Asked Stop Found
   touch = do
-    judging permitted look p frame reach
+    judging permitted (probe look p frame reach) p frame reach
     v ← quickStart c p
-    e ← rounds c (natAbs reach) v
-    end c (natAbs reach) v e
+    toTheEnd c (natAbs reach) v
 
 -- its accepted answer is always marked a guess
 unfoldable pub marked : Pick → Touch

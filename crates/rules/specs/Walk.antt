@@ -342,3 +342,9 @@ module _ (c : Probe) where
     end e = do
       ensure (leb (size (levelled v (normal (e .0)))) R) (stop 10 q (e .1))
       answered (found v e) []
+
+    -- the rounds, then the end
+    abbrev pub toTheEnd : Asked Stop Found
+    toTheEnd = do
+      e ← rounds
+      end e

@@ -87,6 +87,20 @@ pub enum Pick {
     Refused(Refused),
 }
 
+// ---- the start check's answer: a ready start, from which a walk goes on
+
+pub struct ReadyStart {
+    pub start: Vector,
+    pub apex: Vector,
+    pub level: Levels,
+    pub looks: u32,
+}
+
+pub enum Check {
+    Ready(ReadyStart),
+    Refused(Refused),
+}
+
 // ---- the quick touch's answer: what it accepts is always a guess
 
 pub enum Touch {
