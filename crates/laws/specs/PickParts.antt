@@ -10,7 +10,7 @@ use Rattle.rules.specs.declared.Levels.{Levels}
 use Rattle.rules.specs.declared.Triangle.{Triangle}
 use Rattle.rules.specs.Asked.{answered, _>>=_}
 use Rattle.rules.specs.Walk.{Axis, axis0, axis1, axis2, unit, levels, level, Probe, Found, facing, isLevel, axes, start, rounds, found, end}
-use Rattle.rules.specs.Pick.{probe, judging, pick}
+use Rattle.rules.specs.Pick.{probe, judging, check, pick}
 use Rattle.laws.specs.Answered.{Among, among-more, both-answered, ensured-answered}
 
 module _ (c : Probe) where
@@ -67,13 +67,13 @@ module _ (c : Probe) where
     pub walk : WalkPart R levels f t
 
 pub pick-parts : (ok : Bool) (look : Vector → Look) (p : Vector) (frame reach : ℤ) {f : Found} {t : List Vector} → pick ok look p frame reach ≡ answered f t → PickParts (probe look p frame reach) (natAbs reach) f t
-unfolding pick
+unfolding pick check
 pick-parts ok look p frame reach e =
     let c = probe look p frame reach in
-    let a = both-answered (judging ok look p frame reach) _ e in
-    let b = both-answered (start c p) _ (a .second) in
+    let b = both-answered (check ok look p frame reach) _ e in
+    let a = both-answered (judging ok c p frame reach) _ (b .first) in
     record {
       levels = b .answer;
-      axis = λ k. axis-among c (a .secondAmong) (axis-among c (b .firstAmong) (start-parts c p (b .first) k));
-      walk = walk-among c (a .secondAmong) (walk-among c (b .secondAmong) (walk-part c (natAbs reach) (b .answer) (b .second)));
+      axis = λ k. axis-among c (b .firstAmong) (axis-among c (a .secondAmong) (start-parts c p (a .second) k));
+      walk = walk-among c (b .secondAmong) (walk-part c (natAbs reach) (b .answer) (b .second));
     }

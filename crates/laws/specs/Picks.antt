@@ -143,7 +143,7 @@ module _ (ok : Bool) (look : Vector → Look) (p : Vector) (frame reach : ℤ) w
 
   -- what was judged before the walk, and the walk's end
   pub record PickFound (f : Found) : Type 0 where
-    pub passed : Passed ok look p frame reach
+    pub passed : Passed ok (probe look p frame reach) p frame reach
     pub accepting : Accepting (probe look p frame reach) (natAbs reach) f
 
   abbrev pub RefusalHere : Stop → Type 0
@@ -170,7 +170,7 @@ module _ (ok : Bool) (look : Vector → Look) (p : Vector) (frame reach : ℤ) w
         let most : 6 - r + length (only (takesPart v) pairs) * suc (R - r) ≤ 6 * M - 9 = rw (pairs-taking v) (three-most r R M (some-remain v (a .some)) (at-most-3 v) (omega arith) (omega arith)) in
         omega (arith, enough small, looks-add-up K r (length (only (takesPart v) pairs)) (R - r) n l (at-most-3 v) h k, NatL.mul-le-mul-left K most)
 
-    small : Passed ok look p frame reach → R ≤ 256
+    small : Passed ok (probe look p frame reach) p frame reach → R ≤ 256
     small h = between-naturals 1 256 reach (h .permittedReach) .1
 
     -- at once, or after the looks at p and q
@@ -182,19 +182,23 @@ module _ (ok : Bool) (look : Vector → Look) (p : Vector) (frame reach : ℤ) w
 
     every-pick : PickRule ok look p frame reach (powers R) (axes c) Level Ended (Few N PickFound) (Few N RefusalHere)
     every-pick = record {
-      inputs = record {
-        one = λ _. at-once (omega arith, omega arith) (omega arith);
-        two = λ _. at-once (omega arith, omega arith) (omega arith);
-        three = λ _. at-once (omega arith, omega arith) (omega arith);
-        fourStart = λ _. at-once (omega arith, omega arith) (omega arith);
-        fourApex = λ _. at-once (omega arith, omega arith) (omega arith);
-        five = λ h _. at-once (omega arith, omega arith) (omega (arith, start-few (small h)));
-        six = λ h _ _. at-once (omega arith, omega arith) (omega (arith, start-few (small h)));
+      started = record {
+        inputs = record {
+          judged = record {
+            one = λ _. at-once (omega arith, omega arith) (omega arith);
+            two = λ _. at-once (omega arith, omega arith) (omega arith);
+            three = λ _. at-once (omega arith, omega arith) (omega arith);
+            fourStart = λ _. at-once (omega arith, omega arith) (omega arith);
+            fourApex = λ _. at-once (omega arith, omega arith) (omega arith);
+          };
+          five = λ h _. at-once (omega arith, omega arith) (omega (arith, start-few (small h)));
+          six = λ h _ _. at-once (omega arith, omega arith) (omega (arith, start-few (small h)));
+        };
+        beginSays = λ h.
+            says-weaker _ (λ v t k. (k .0, omega (arith, k .1))) (λ r t k. fewer (λ l. omega (arith, l, start-few (small (h .passed)))) k)
+            (axes-says c axis-rule (λ _. refuse c R 7 _ (omega arith) (omega arith, omega arith)));
       };
-      beginSays = λ h.
-          says-weaker _ (λ v t k. (k .0, omega (arith, k .1))) (λ r t k. fewer (λ l. omega (arith, l, start-few (small (h .passed)))) k)
-          (axes-says c axis-rule (λ _. refuse c R 7 _ (omega arith) (omega arith, omega arith)));
-      toTheEnd = λ h v. record {
+      ended = λ h v. record {
         roundsSay = λ t k. says-weaker _ (λ e s j. (k .0, fewer (λ l. rounds-few h v t s k l) j)) (λ r s j. fewer (λ l. rounds-few h v t s k l) j) (rounds-say c R v (k .0));
         ten = λ e t k n. record { holds = other-than-8 c R 10 _ (e .1) (omega arith) (omega arith, omega arith) (k .1 .holds .fewSteps .1); few = k .1 .few };
         ends = λ e t k n. record {

@@ -198,30 +198,34 @@ module _ (ok : Bool) (look : Vector → Look) (p : Vector) (frame reach : ℤ) w
     every-touch : PickRule ok look p frame reach (1 ∷ []) (allCorners d) Level Ended (TouchFound R) Stops
     unfolding allCorners found
     every-touch = record {
-      inputs = record {
-        one = λ _. at-once 1 _ [] (omega arith, omega arith) (omega arith);
-        two = λ _. at-once 2 _ [] (omega arith, omega arith) (omega arith);
-        three = λ _. at-once 3 _ [] (omega arith, omega arith) (omega arith);
-        fourStart = λ _. at-once 4 _ [] (omega arith, omega arith) (omega arith);
-        fourApex = λ _. at-once 4 _ [] (omega arith, omega arith) (omega arith);
-        five = λ h _. at-once 5 _ (p ∷ []) (omega arith, omega arith) (omega arith);
-        six = λ h _ _. at-once 6 _ (p ∷ d .apex ∷ []) (omega arith, omega arith) (omega arith);
+      started = record {
+        inputs = record {
+          judged = record {
+            one = λ _. at-once 1 _ [] (omega arith, omega arith) (omega arith);
+            two = λ _. at-once 2 _ [] (omega arith, omega arith) (omega arith);
+            three = λ _. at-once 3 _ [] (omega arith, omega arith) (omega arith);
+            fourStart = λ _. at-once 4 _ [] (omega arith, omega arith) (omega arith);
+            fourApex = λ _. at-once 4 _ [] (omega arith, omega arith) (omega arith);
+          };
+          five = λ h _. at-once 5 _ (p ∷ []) (omega arith, omega arith) (omega arith);
+          six = λ h _ _. at-once 6 _ (p ∷ d .apex ∷ []) (omega arith, omega arith) (omega arith);
+        };
+        beginSays = λ h.
+            says-map _ (λ _. noneLevel)
+            (says-weaker _ (λ _ t k. k .1) empty (corners-say d (unit axis0 ∷ unit axis1 ∷ unit axis2 ∷ []) (corners-in (h .passed) axis0, (corners-in (h .passed) axis1, (corners-in (h .passed) axis2, tt)))))
+            (λ _ t k. (refl, rw k));
       };
-      beginSays = λ h.
-          says-map _ (λ _. noneLevel)
-          (says-weaker _ (λ _ t k. k .1) empty (corners-say d (unit axis0 ∷ unit axis1 ∷ unit axis2 ∷ []) (corners-in (h .passed) axis0, (corners-in (h .passed) axis1, (corners-in (h .passed) axis2, tt)))))
-          (λ _ t k. (refl, rw k));
-      toTheEnd = λ h v. record {
+      ended = λ h v. record {
         roundsSay = λ t k. rw (k .0) (says-weaker _ (λ e s j. (j .0, omega (arith, j .1, k .1, length-append t s))) (λ r s j. walk-stop (small (h .passed)) r t s (k .1) j) rounds-say);
         ten = λ e t k n. record { fewSteps = k .0; small = inr (small (h .passed)); few = omega (arith, k .1); known = (omega arith, omega arith, λ z. absurd (omega (arith, z))); next = λ z. absurd (omega (arith, z)); corner = λ z. absurd (omega (arith, z)) };
         ends = λ e t k n. record { fewSteps = k .0; small = small (h .passed); counted = k .1 };
       };
     }
       where
-        small : Passed ok look p frame reach → R ≤ 256
+        small : Passed ok (probe look p frame reach) p frame reach → R ≤ 256
         small h = between-naturals 1 256 reach (h .permittedReach) .1
 
-        corners-in : Passed ok look p frame reach → (k : Axis) → T (isInside (look (corner d (unit k))))
+        corners-in : Passed ok (probe look p frame reach) p frame reach → (k : Axis) → T (isInside (look (corner d (unit k))))
         corners-in h = inside (h .startInside) (h .apexInside)
 
         empty : (r : Stop) (t : List Vector) → FirstEmpty d (unit axis0 ∷ unit axis1 ∷ unit axis2 ∷ []) r (length t) → Stops r (p ∷ d .apex ∷ t)

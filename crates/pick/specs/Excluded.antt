@@ -15,7 +15,7 @@ use Rattle.rules.specs.Solids.{between, permittedWedge, filledWedge, inBox, loo
 use Rattle.rules.specs.Asked.{after, _>>=_}
 use Rattle.rules.specs.Walk.{ensure, sign, signs, seen, asked, powersFrom, powers, units, allLevel, keep, only, remaining, takesPart, levelled, normal, determinant, inside, anyInside, firstFree, choice, lookAt, fallsAt, facing, isLevel, axes, start, falling, round, walk, rounds, found, end}
 use Rattle.laws.specs.Answers.{looksOf}
-use Rattle.rules.specs.Pick.{isInside, placing, judging, pick, answer, pickOf, WedgePromise}
+use Rattle.rules.specs.Pick.{isInside, placing, judging, check, pick, answer, pickOf, WedgePromise}
 
 abbrev pub normalOf : Pick → Vector
 normalOf (Accepted a) = a .normal
@@ -53,7 +53,7 @@ evaluated :
     × (looksOf (pickOf (IsWedge turned) [] spot (pos 0) (pos 8)) ≡ 95)
     × (looksOf (pickOf (IsWedge w4) [] spot (pos 0) (pos 3)) ≡ 23)
     × (looksOf (pickOf (IsWedge opposing) [] spot (pos 0) (pos 8)) ≡ 15)
-unfolding _⊕_ _⊖_ minus scale dot cross det sphere lay size between permittedWedge filledWedge inBox look after _>>=_ ensure sign signs seen asked powersFrom powers allLevel keep only remaining takesPart levelled normal determinant inside anyInside firstFree choice lookAt fallsAt facing isLevel axes start falling round walk rounds found end isInside placing judging pick answer pickOf
+unfolding _⊕_ _⊖_ minus scale dot cross det sphere lay size between permittedWedge filledWedge inBox look after _>>=_ ensure sign signs seen asked powersFrom powers allLevel keep only remaining takesPart levelled normal determinant inside anyInside firstFree choice lookAt fallsAt facing isLevel axes start falling round walk rounds found end isInside placing judging check pick answer pickOf
 evaluated = (refl, refl, refl, refl, refl)
 
 -- the normal is not the sum of the cross products of the laid-in vectors: that one points inward

@@ -23,7 +23,7 @@ use Rattle.rules.specs.Vectors.{vector, _⊕_, _⊖_, minus, scale, dot, cross,
 use Rattle.rules.specs.Solids.{between, permittedWedge, filledWedge, box, inBox, filled, look, rowBytes, sliceBytes, stackBytes, permittedStack, voxel, filledStack}
 use Rattle.rules.specs.Asked.{after, _>>=_}
 use Rattle.rules.specs.Walk.{ensure, sign, signs, seen, asked, powersFrom, powers, normal, allLevel, keep, only, remaining, takesPart, levelled, determinant, inside, anyInside, firstFree, choice, lookAt, fallsAt, facing, isLevel, axes, start, falling, round as roundOf, walk, rounds, found, end}
-use Rattle.rules.specs.Pick.{isInside, placing, judging, pick, answer, pickOf}
+use Rattle.rules.specs.Pick.{isInside, placing, judging, check, pick, answer, pickOf}
 use Rattle.laws.specs.Parts.{scale-dot, vector-eq}
 use Rattle.laws.specs.Ranges.{Between}
 use Rattle.laws.specs.Boxes.{in-cube}
@@ -146,7 +146,7 @@ on-stair = record {
 }
 
 pub not-empty : NotEmpty
-unfolding outcome _⊕_ _⊖_ minus scale dot cross det sphere lay size between permittedWedge filledWedge inBox look rowBytes voxel filledStack permittedStack stackBytes sliceBytes stairBytes slices rows row after _>>=_ ensure sign signs seen asked powersFrom powers normal allLevel keep only remaining takesPart levelled determinant inside anyInside firstFree choice lookAt fallsAt facing isLevel axes start falling roundOf walk rounds found end isInside placing judging pick answer pickOf accepts
+unfolding outcome _⊕_ _⊖_ minus scale dot cross det sphere lay size between permittedWedge filledWedge inBox look rowBytes voxel filledStack permittedStack stackBytes sliceBytes stairBytes slices rows row after _>>=_ ensure sign signs seen asked powersFrom powers normal allLevel keep only remaining takesPart levelled determinant inside anyInside firstFree choice lookAt fallsAt facing isLevel axes start falling roundOf walk rounds found end isInside placing judging check pick answer pickOf accepts
 not-empty = record {
   W1 = accepts (on-line (on-wedge (pos 1) unit0 tt tt tt tt tt tt refl tt tt refl refl refl) tt tt) refl;
   W2 = accepts (on-line (on-wedge (pos 1) unit0 tt tt tt tt tt tt refl tt tt refl refl refl) tt tt) refl;

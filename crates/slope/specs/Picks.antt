@@ -250,20 +250,24 @@ module _ (n : Vector) (t : ℤ) (i : Inputs) (o : OnSlope n t i) where
   pub good-inputs : {Stops : Stop → List Vector → Type 0} → InputRule (permitted (i .solid) (i .bytes)) (look (i .solid) (i .bytes)) (i .start) (i .frame) (i .reach) Stops
   unfolding isInside
   good-inputs = record {
-    one = λ z. absurd (T-not (between (pos 1) (i .reach) (pos 256)) z (o .permitted .permittedReach));
-    two = λ z. absurd (T-not (between (pos 0) (i .frame) (pos 7)) z (o .permitted .permittedFrame));
-    three = λ z. absurd (T-not (permitted (i .solid) (i .bytes)) z (o .permitted .permittedSolid));
-    fourStart = λ z. absurd (T-not (isInside (lookOf (i .start))) z (rw (o .touched .startFilled) tt));
-    fourApex = λ z. absurd (T-not (isInside (lookOf (c .apex))) z (rw (o .touched .apexEmpty) tt));
+    judged = record {
+      one = λ z. absurd (T-not (between (pos 1) (i .reach) (pos 256)) z (o .permitted .permittedReach));
+      two = λ z. absurd (T-not (between (pos 0) (i .frame) (pos 7)) z (o .permitted .permittedFrame));
+      three = λ z. absurd (T-not (permitted (i .solid) (i .bytes)) z (o .permitted .permittedSolid));
+      fourStart = λ z. absurd (T-not (isInside (lookOf (i .start))) z (rw (o .touched .startFilled) tt));
+      fourApex = λ z. absurd (T-not (isInside (lookOf (c .apex))) z (rw (o .touched .apexEmpty) tt));
+    };
     five = λ _ e. absurd (let k = sym e ∙ o .touched .startFilled in let z : _≡_ {A = ℕ} 0 1 = cc in omega arith);
     six = λ _ _ e. absurd (let k = sym e ∙ o .touched .apexEmpty in let z : _≡_ {A = ℕ} 0 1 = cc in omega arith);
   }
 
   slope-pick : PickRule (permitted (i .solid) (i .bytes)) lookOf (i .start) (i .frame) (i .reach) (powers R) (axes c) Level Ended (Few fewest (λ f. f ≡ found c v ideally)) (λ e l. EdgeHere e)
   slope-pick = record {
-    inputs = good-inputs;
-    beginSays = λ _. says-weaker _ (λ a l h. levels-say a l (h .0) (h .1)) (λ e l h. h .holds) (axes-says c axis-rule (λ h. absurd (not-all h)));
-    toTheEnd = λ _ a. record {
+    started = record {
+      inputs = good-inputs;
+      beginSays = λ _. says-weaker _ (λ a l h. levels-say a l (h .0) (h .1)) (λ e l h. h .holds) (axes-says c axis-rule (λ h. absurd (not-all h)));
+    };
+    ended = λ _ a. record {
       roundsSay = rounds-of a;
       ten = λ e l h z. absurd (T-not (leb (size (levelled a (normal (e .0)))) R) z (rw (h .0, h .1 .holds) end-fits));
       ends = λ e l h z. record { holds = same-found (h .0) (h .1 .holds); few = h .1 .few };

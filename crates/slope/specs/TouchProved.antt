@@ -148,19 +148,21 @@ module _ (n : Vector) (t : ℤ) (i : Inputs) (o : OnLevel n t i) where
   slope-touch : PickRule (permitted (i .solid) (i .bytes)) (look (i .solid) (i .bytes)) (i .start) (i .frame) (i .reach) (1 ∷ []) (allCorners d) Level Ended Finds Stops
   unfolding allCorners
   slope-touch = record {
-    inputs = good-inputs n t i onSlope;
-    beginSays = λ h.
-        says-map _ (λ _. noneLevel)
-        (says-weaker _ (λ _ l k. levels-are (k .0)) (λ r l k. inr (first-empty r l k)) (corners-say d (unit axis0 ∷ unit axis1 ∷ unit axis2 ∷ []) (inside (h .passed) axis0, (inside (h .passed) axis1, (inside (h .passed) axis2, tt)))))
-        (λ _ l k. (k, k));
-    toTheEnd = λ _ a. record {
+    started = record {
+      inputs = good-inputs n t i onSlope;
+      beginSays = λ h.
+          says-map _ (λ _. noneLevel)
+          (says-weaker _ (λ _ l k. levels-are (k .0)) (λ r l k. inr (first-empty r l k)) (corners-say d (unit axis0 ∷ unit axis1 ∷ unit axis2 ∷ []) (inside (h .passed) axis0, (inside (h .passed) axis1, (inside (h .passed) axis2, tt)))))
+          (λ _ l k. (k, k));
+    };
+    ended = λ _ a. record {
       roundsSay = λ l h. rw (h .0) (says-weaker _ (λ e k j. (refl, h .1, j)) (λ r k j. inl j) (rounds-of (h .1)));
       ten = λ e l h z. absurd (T-not (leb (size (levelled a (normal (e .0)))) R) z (rw (h .0, h .2) (end-fits n t i onSlope)));
       ends = λ e l h z. (h .1, λ j. found d (h .0 j) (h .2 j));
     };
   }
     where
-      inside : Passed (permitted (i .solid) (i .bytes)) (look (i .solid) (i .bytes)) (i .start) (i .frame) (i .reach) → (k : Axis) → T (isInside (d .look (corner d (unit k))))
+      inside : Passed (permitted (i .solid) (i .bytes)) (probeAt i) (i .start) (i .frame) (i .reach) → (k : Axis) → T (isInside (d .look (corner d (unit k))))
       inside h = corner-inside (i .solid) (i .bytes) (i .start) (signsOf i) (h .startInside) (h .apexInside)
 
       levels-are : (d .look (corner d (unit axis0)) ≡ Filled) × ((d .look (corner d (unit axis1)) ≡ Filled) × ((d .look (corner d (unit axis2)) ≡ Filled) × Unit {0})) → noneLevel ≡ v
