@@ -23,6 +23,7 @@ use Rattle.rules.specs.Asked.{Asked, answered, refused}
 use Rattle.rules.specs.Solids.{permitted, look}
 use Rattle.rules.specs.Walk.{Stop, stop, powers, Axis, axis0, axis1, axis2, unit, vectorOf, level, remaining, unlessLevel, levelled, normal, Probe, Found, laid, found}
 use Rattle.rules.specs.Pick.{pick, acceptedAnswer, answer, pickOf}
+use Rattle.rules.specs.TwoCalls.{answerFrom}
 use Rattle.laws.specs.Parts.{NonNegative, part, part-of, parts-by, scale-one}
 use Rattle.laws.specs.Triples.{detOf, crosses, combined, expand}
 use Rattle.laws.specs.Levels.{above-zero, isZero, levelsOf, levels-of, levels-eq, part-levelled}
@@ -32,9 +33,8 @@ use Rattle.laws.specs.Tame.{tame-normal}
 use Rattle.laws.specs.Says.{Says, Few}
 use Rattle.laws.specs.Answered.{voxelsOf}
 use Rattle.laws.specs.Frames.{Signs, lay-lay, lay-dot, lay-scale, lay-sum, lay-part-zero}
-use Rattle.laws.specs.Next.{LevelsAnswered}
-use Rattle.laws.specs.Axes.{levels-answered}
-use Rattle.laws.specs.Picks.{Accepting, PickFound, RefusalHere, pick-says}
+use Rattle.laws.specs.Rounds.{WalkFound}
+use Rattle.laws.specs.Picks.{PickFound, RefusalHere, pick-says}
 
 pub laid-of : (s : Vector) (m : Triangle) (k : Axis) → vectorOf (laid s m) k ≡ lay s (vectorOf m k)
 laid-of s m axis0 = refl
@@ -56,15 +56,24 @@ foundOf a = record { normal = a .normal; triangle = a .triangle; apex = a .apex;
 abbrev pub stopOf : RefusedPick → Stop
 stopOf r = stop (r .number) (r .place) (r .steps)
 
--- with the voxels that were looked at: the looks count them
+-- with the voxels that were looked at, and the looks that they count
+abbrev pub CountedSays : (List Vector → ℕ) → (Found → List Vector → Type 0) → (Stop → List Vector → Type 0) → Pick → Type 0
+CountedSays count Q F (Accepted a) = (t : List Vector) × Q (foundOf a) t × (a .looks ≡ count t)
+CountedSays count Q F (Refused r) = (t : List Vector) × F (stopOf r) t × (r .looks ≡ count t)
+
 abbrev pub AnswerSays : (Found → List Vector → Type 0) → (Stop → List Vector → Type 0) → Pick → Type 0
-AnswerSays Q F (Accepted a) = (t : List Vector) × Q (foundOf a) t × (a .looks ≡ length t)
-AnswerSays Q F (Refused r) = (t : List Vector) × F (stopOf r) t × (r .looks ≡ length t)
+AnswerSays = CountedSays length
 
 pub answer-says : (Q : Found → List Vector → Type 0) (F : Stop → List Vector → Type 0) (x : Asked Stop Found) → Says Q F x → AnswerSays Q F (answer x)
 unfolding answer
 answer-says Q F (answered f t) h = (t, h .of, refl)
 answer-says Q F (refused r t) h = (t, h .of, refl)
+
+-- counted on from n looks
+pub answer-from-says : (n : ℕ) (Q : Found → List Vector → Type 0) (F : Stop → List Vector → Type 0) (x : Asked Stop Found) → Says Q F x → CountedSays (λ t. n + length t) Q F (answerFrom n x)
+unfolding answerFrom
+answer-from-says n Q F (answered f t) h = (t, h .of, refl)
+answer-from-says n Q F (refused r t) h = (t, h .of, refl)
 
 -- the answer's looks count the voxels
 pub voxels-counted : (x : Asked Stop Found) → looksOf (answer x) ≡ length (voxelsOf x)
@@ -119,52 +128,49 @@ as-upward : (b : Bool) (z : ℤ) → PartAs b z → pos 0 ≤ℤ z
 as-upward true z h = omega (arith, parts, h)
 as-upward false z h = omega (arith, parts, h)
 
-module _ {c : Probe} {R : ℕ} {f : Found} (h : Accepting c R f) where
+module _ {c : Probe} {R : ℕ} {v : Levels} {f : Found} (h : WalkFound c R v f) where
   abbrev s : Vector
   s = c .signs
 
   abbrev m : Triangle
   m = h .at .0
 
-  accepting-triangle : f .triangle ≡ laid (c .signs) (h .at .0)
+  found-triangle : f .triangle ≡ laid (c .signs) (h .at .0)
   unfolding found
-  accepting-triangle = ap (λ (f : Found). f .triangle) (h .is)
+  found-triangle = ap (λ (f : Found). f .triangle) (h .is)
 
-  accepting-normal : f .normal ≡ lay s (levelled (h .level) (normal (h .at .0)))
+  found-normal : f .normal ≡ lay s (levelled v (normal (h .at .0)))
   unfolding found
-  accepting-normal = ap (λ (f : Found). f .normal) (h .is)
+  found-normal = ap (λ (f : Found). f .normal) (h .is)
 
-  pub accepting-determinant : Signs (c .signs) → detOf (laid (c .signs) (f .triangle)) ≡ pos 1
-  accepting-determinant g = rw accepting-triangle (rw (lay-lay s (m .m0) g, lay-lay s (m .m1) g, lay-lay s (m .m2) g) (h .end .tame .unimodular))
+  pub found-determinant : Signs (c .signs) → detOf (laid (c .signs) (f .triangle)) ≡ pos 1
+  found-determinant g = rw found-triangle (rw (lay-lay s (m .m0) g, lay-lay s (m .m1) g, lay-lay s (m .m2) g) (h .end .tame .unimodular))
 
-  part-is : Signs s → (k : Axis) → PartAs (level (h .level) k) (part k (lay s (f .normal)))
+  part-is : Signs s → (k : Axis) → PartAs (level v k) (part k (lay s (f .normal)))
   part-is g k =
-      subst (PartAs (level (h .level) k)) (sym (ap (part k) (ap (lay s) accepting-normal ∙ lay-lay s _ g) ∙ part-levelled (h .level) (normal m) k))
-      (part-as (level (h .level) k) (part k (normal m)) (part-of (tame-normal m (h .end .tame)) k))
+      subst (PartAs (level v k)) (sym (ap (part k) (ap (lay s) found-normal ∙ lay-lay s _ g) ∙ part-levelled v (normal m) k))
+      (part-as (level v k) (part k (normal m)) (part-of (tame-normal m (h .end .tame)) k))
 
   -- no part against the frame
-  pub accepting-signs : Signs (c .signs) → NonNegative (lay (c .signs) (f .normal))
-  accepting-signs g = parts-by (λ z. pos 0 ≤ℤ z) (lay s (f .normal)) (λ k. as-upward (level (h .level) k) _ (part-is g k))
+  pub found-signs : Signs (c .signs) → NonNegative (lay (c .signs) (f .normal))
+  found-signs g = parts-by (λ z. pos 0 ≤ℤ z) (lay s (f .normal)) (λ k. as-upward (level v k) _ (part-is g k))
 
-  pub accepting-levels : Signs (c .signs) → h .level ≡ levelsOf (f .normal)
-  accepting-levels g = levels-eq (λ k. as-zero (level (h .level) k) _ (part-is g k) ∙ lay-part-zero s (f .normal) g k ∙ sym (levels-of (f .normal) k))
+  pub found-levels : Signs (c .signs) → v ≡ levelsOf (f .normal)
+  found-levels g = levels-eq (λ k. as-zero (level v k) _ (part-is g k) ∙ lay-part-zero s (f .normal) g k ∙ sym (levels-of (f .normal) k))
 
-  pub accepting-steps : Signs (c .signs) → f .steps ≤ R - length (remaining (levelsOf (f .normal)))
+  pub found-steps : Signs (c .signs) → f .steps ≤ R - length (remaining (levelsOf (f .normal)))
   unfolding found
-  accepting-steps g = rw (← accepting-levels g, ap (λ (f : Found). f .steps) (h .is)) (h .end .fewSteps .0)
-
-  pub accepting-axes : Signs (c .signs) → LevelsAnswered c (levelsOf (f .normal))
-  accepting-axes g = subst (LevelsAnswered c) (accepting-levels g) (levels-answered c (h .asked))
+  found-steps g = rw (← found-levels g, ap (λ (f : Found). f .steps) (h .is)) (h .end .fewSteps .allowed)
 
   -- a level axis's vector stays the unit vector
-  pub accepting-stays : Signs (c .signs) → (k : Axis) → T (level (levelsOf (f .normal)) k) → vectorOf (f .triangle) k ≡ lay (c .signs) (unit k)
-  accepting-stays g k e = ap (λ (t : Triangle). vectorOf t k) accepting-triangle ∙ laid-of s m k ∙ ap (lay s) (h .end .flat k (subst (λ (v : Levels). T (level v k)) (sym (accepting-levels g)) e) k .own refl)
+  pub found-stays : Signs (c .signs) → (k : Axis) → T (level (levelsOf (f .normal)) k) → vectorOf (f .triangle) k ≡ lay (c .signs) (unit k)
+  found-stays g k e = ap (λ (t : Triangle). vectorOf t k) found-triangle ∙ laid-of s m k ∙ ap (lay s) (h .end .flat k (subst (λ (v : Levels). T (level v k)) (sym (found-levels g)) e) k .own refl)
 
-  pub accepting-products : Signs (c .signs) → Products (levelsOf (f .normal)) (f .normal) (f .triangle)
-  accepting-products g = rw (← accepting-levels g) (rw (accepting-triangle, accepting-normal) (laid-products g (h .end .flat) (h .end .tame .unimodular)))
+  pub found-products : Signs (c .signs) → Products (levelsOf (f .normal)) (f .normal) (f .triangle)
+  found-products g = rw (← found-levels g) (rw (found-triangle, found-normal) (laid-products g (h .end .flat) (h .end .tame .unimodular)))
 
-  pub accepting-generated : Signs (c .signs) → (v : Vector) → dot (f .normal) v ≡ pos 0 → Combines (generators (levelsOf (f .normal)) (f .triangle)) v
-  accepting-generated g v e = subst (λ l. Combines (generators l (f .triangle)) v) (accepting-levels g) (rw accepting-triangle (laid-generated g (h .end .flat) (h .end .tame .unimodular) v (rw accepting-normal at e)))
+  pub found-generated : Signs (c .signs) → (u : Vector) → dot (f .normal) u ≡ pos 0 → Combines (generators (levelsOf (f .normal)) (f .triangle)) u
+  found-generated g u e = subst (λ l. Combines (generators l (f .triangle)) u) (found-levels g) (rw found-triangle (laid-generated g (h .end .flat) (h .end .tame .unimodular) u (rw found-normal at e)))
 
 -- ---- and of a solid's pick
 module _ (solid : Solid) (bytes : List ℕ) (p : Vector) (frame reach : ℤ) where
@@ -192,7 +198,7 @@ module _ (solid : Solid) (bytes : List ℕ) (p : Vector) (frame reach : ℤ) whe
   few-steps = go _ (pickOf solid bytes p frame reach) (tells _ (λ _. NatL.le-refl _))
     where
       go : (N : ℕ) (x : Pick) → AnswerSays (Few N FoundOn) (Few N RefusalOn) x → stepsOf x ≤ natAbs reach - 2
-      go N (Accepted a) h = let k = h .1 .holds .accepting in rw (ap (λ (f : Found). f .steps) (k .is)) (k .end .fewSteps .1 .most)
+      go N (Accepted a) h = let k = h .1 .holds .accepting .walked in rw (ap (λ (f : Found). f .steps) (k .is)) (k .end .fewSteps .most)
       go N (Refused r) h = h .1 .holds .fewSteps .most
 
   pub few-looks : (N : ℕ) → (natAbs reach ≤ 256 → 2 + length (powers (natAbs reach)) * (6 * max (natAbs reach) 3 - 9) ≤ N) → looksOf (pickOf solid bytes p frame reach) ≤ N

@@ -26,9 +26,12 @@ pub mod Ranges
 pub mod Boxes
 pub mod PickRule
 pub mod Corners
+pub mod Rounds
+pub mod Checks
 pub mod Picks
 pub mod Touches
 pub mod Answers
+pub mod Handed
 pub mod Touched
 pub mod BothWays
 pub mod Stacks

@@ -14,7 +14,7 @@ use Rattle.rules.specs.declared.Pair.{Pair}
 use Rattle.rules.specs.declared.Choice.the-variants.{Chosen}
 use Rattle.rules.specs.Vectors.{_⊕_, minus, scale, lay}
 use Rattle.rules.specs.Asked.{answered, refused}
-use Rattle.rules.specs.Walk.{Stop, stop, Probe, Axis, axis0, axis1, axis2, unit, units, pairs, way, step, level, only, takesPart, falls, isLevel}
+use Rattle.rules.specs.Walk.{Stop, Probe, Axis, axis0, axis1, axis2, unit, units, pairs, way, step, level, only, takesPart, falls, isLevel}
 use Rattle.laws.specs.Tests.{In}
 use Rattle.laws.specs.Looks.{Fell, FellOf, Stopped, StoppedOf, RoundOf}
 
@@ -68,5 +68,5 @@ module _ (c : Probe) where
     pub is : r .place ≡ c .apex ⊕ scale (pos power) (lay (c .signs) vector)
     pub outside : c .look (r .place) ≡ Outside
 
-  pub next-look : {n : ℕ} {p : Vector} (u : Vector) → Question n u → Stopped c u p → NextLook (stop 8 p n)
+  pub next-look : {r : Stop} (u : Vector) → Question (r .steps) u → Stopped c u (r .place) → NextLook r
   next-look u a h = record { vector = u; question = a; voxels = h .voxels; stops = h .is; power = h .beyond .power; isPower = h .beyond .isPower; is = h .beyond .is; outside = h .beyond .outside }

@@ -37,7 +37,8 @@ use Rattle.laws.specs.Powers.{Reaches, powers-128}
 use Rattle.laws.specs.Ranges.{Between, InCube}
 use Rattle.laws.specs.Boxes.{stack-cube}
 use Rattle.laws.specs.Axes.{FellAlong, AxesOf}
-use Rattle.laws.specs.Picks.{End, PickFound}
+use Rattle.laws.specs.Rounds.{End}
+use Rattle.laws.specs.Picks.{PickFound}
 use Rattle.laws.specs.Answers.{foundOf, accepted-tells}
 
 -- two ways that did not fall were looked at, at one power of at least M, inside the box
@@ -135,4 +136,4 @@ stack-reach stack bytes p frame reach a is =
     go true k = leb→le (natAbs reach) 64 (rw k tt)
     go false k =
         let o = h .accepting in
-        absurd (too-far _ (stack-cube stack bytes (h .passed .permittedSolid)) (signs-are (natAbs frame)) (powers-128 (natAbs reach) (nleb→lt (natAbs reach) 64 (rw k tt))) _ (o .level) (o .at) (o .asked) (o .end))
+        absurd (too-far _ (stack-cube stack bytes (h .passed .permittedSolid)) (signs-are (natAbs frame)) (powers-128 (natAbs reach) (nleb→lt (natAbs reach) 64 (rw k tt))) _ (o .level) (o .walked .at) (o .asked) (o .walked .end))

@@ -56,9 +56,10 @@ use Rattle.laws.specs.Ended as Ended
 use Rattle.laws.specs.Ended.{Stood, EndsIfNoneFalls, end-stood}
 use Rattle.laws.specs.PickParts.{PickParts, pick-parts}
 use Rattle.laws.specs.BothWays.{BothWays, parts-levels, levels-looked, sides-looked}
+use Rattle.laws.specs.Rounds.{WalkFound}
 use Rattle.laws.specs.Picks.{Accepting}
 use Rattle.laws.specs.Answers as Answers
-use Rattle.laws.specs.Answers.{stepsOf, looksOf, foundOf, stopOf, voxels-counted, accepted-answer, accepted-tells, refused-tells, few-steps, accepting-determinant, accepting-products, accepting-generated, accepting-signs, accepting-steps, accepting-stays, accepting-axes}
+use Rattle.laws.specs.Answers.{stepsOf, looksOf, foundOf, stopOf, voxels-counted, accepted-answer, accepted-tells, refused-tells, few-steps, found-determinant, found-products, found-generated, found-signs, found-levels, found-steps, found-stays}
 use Rattle.laws.specs.Corners as Corners
 use Rattle.laws.specs.Corners.{CornerEmpty, nth}
 use Rattle.laws.specs.Touches.{NextTouch}
@@ -176,35 +177,38 @@ module _ (solid : Solid) (bytes : List ℕ) (p : Vector) (frame reach : ℤ) whe
     abbrev accepting : Accepting (probe (look solid bytes) p frame reach) (natAbs reach) (foundOf a)
     accepting = accepted-tells solid bytes p frame reach a is .accepting
 
+    abbrev walked : WalkFound (probe (look solid bytes) p frame reach) (natAbs reach) (accepting .level) (foundOf a)
+    walked = accepting .walked
+
     abbrev signed : Signs (signs (natAbs frame))
     signed = signs-are (natAbs frame)
 
     -- an axis is level exactly if the normal's part is 0
     pub accepted-levels : Answered (levelsOf (a .normal))
-    accepted-levels = accepting-axes accepting signed
+    accepted-levels = subst (LevelsAnswered c) (found-levels walked signed) (levels-answered c (accepting .asked))
 
     -- the other parts have the frame's sign
     pub accepted-signs : NonNegative (lay s (a .normal))
-    accepted-signs = accepting-signs accepting signed
+    accepted-signs = found-signs walked signed
 
     -- a level axis's vector stays the unit vector, laid in
     pub accepted-stays : (k : Axis) → T (level (levelsOf (a .normal)) k) → vectorOf (a .triangle) k ≡ lay s (unit k)
-    accepted-stays = accepting-stays accepting signed
+    accepted-stays = found-stays walked signed
 
     -- steps: at most the reach less the remaining axes
     pub accepted-steps : a .steps ≤ natAbs reach - length (remaining (levelsOf (a .normal)))
-    accepted-steps = accepting-steps accepting signed
+    accepted-steps = found-steps walked signed
 
     -- the triangle has determinant 1 in the frame; the normal's product is 0 with the vector of a level axis and 1 with every other
     pub accepted-determinant : detOf (laid s (a .triangle)) ≡ pos 1
-    accepted-determinant = accepting-determinant accepting signed
+    accepted-determinant = found-determinant walked signed
 
     pub accepted-products : (k : Axis) → dot (a .normal) (vectorOf (a .triangle) k) ≡ product (level (levelsOf (a .normal)) k)
-    accepted-products = accepting-products accepting signed
+    accepted-products = found-products walked signed
 
     -- the level vectors and the sides between the other corners generate every whole vector of the plane
     pub accepted-generated : (v : Vector) → dot (a .normal) v ≡ pos 0 → Combines (generators (levelsOf (a .normal)) (a .triangle)) v
-    accepted-generated = accepting-generated accepting signed
+    accepted-generated = found-generated walked signed
 
     parts-here : PickParts c (natAbs reach) (foundOf a) lookedAt
     unfolding pickOf
