@@ -24,7 +24,7 @@ use Rattle.laws.specs.Frames.{lay-minus, lay-difference}
 use Rattle.laws.specs.Next.{LevelsAnswered}
 use Rattle.laws.specs.Answered.{Among, Both, both-answered, asked-answered, ensured-answered}
 use Rattle.laws.specs.Ended.{Stood, stood-among, falls-stood, end-stood}
-use Rattle.laws.specs.PickParts.{PickParts}
+use Rattle.laws.specs.PickParts.{WalkPart, PickParts}
 use Rattle.laws.specs.Answers.{laid-of}
 
 -- ---- the pair (l, k)
@@ -44,11 +44,11 @@ turned-to P12 = refl
 turned-to P20 = refl
 turned-to P21 = refl
 
-turned-takes : (v : Levels) (x : Pair) → T (takesPart v x) → T (takesPart v (turned x))
+pub turned-takes : (v : Levels) (x : Pair) → T (takesPart v x) → T (takesPart v (turned x))
 unfolding takesPart
 turned-takes v x t = rw (turned-from x, turned-to x) (yes-and (not (level v (to x))) (not (level v (from x))) (to-remains v x t) (from-remains v x t))
 
-turned-way : (m : Triangle) (x : Pair) → way m (turned x) ≡ minus (way m x)
+pub turned-way : (m : Triangle) (x : Pair) → way m (turned x) ≡ minus (way m x)
 turned-way m x = ap₂ (λ (k l : Axis). vectorOf m k ⊖ vectorOf m l) (turned-to x) (turned-from x) ∙ difference-turned (first m x) (second m x)
 
 laid-way : (s : Vector) (m : Triangle) (x : Pair) → way (laid s m) x ≡ lay s (way m x)
@@ -89,32 +89,29 @@ module _ (c : Probe) where
   both-among : {t w : List Vector} {u : Vector} → Among t w → BothWays t u → BothWays w u
   both-among a h = record { there = stood-among c _ a (h .there); back = stood-among c _ a (h .back) }
 
-  module _ {R : ℕ} {f : Found} {t : List Vector} (h : PickParts c R f t) where
-    abbrev v : Levels
-    v = h .levels
-
+  -- of a walk with the level axes v
+  module _ {R : ℕ} {v : Levels} {f : Found} {t : List Vector} (h : WalkPart c R v f t) where
     abbrev m : Triangle
-    m = h .walk .end .0
-
-    abbrev ps : List Pair
-    ps = only (takesPart (h .levels)) pairs
-
-    pub levels-looked : (k : Axis) → T (level (h .levels) k) → BothWays t (lay (c .signs) (unit k))
-    levels-looked k l = let a = h .axis k in both-among (a .among) (level-stood (unit k) (a .is ∙ ap (λ (b : Bool). answered b (a .voxels)) (is-true (level v k) l)))
+    m = h .end .0
 
     side-stood : (x : Pair) → T (takesPart v x) → Stood c t (lay s (way m x))
     unfolding rounds
-    side-stood x takes = stood-among c _ (h .walk .among) (end-stood c ps _ 0 units (units-tame .unimodular) (h .walk .walked) x (taking-in v x takes))
+    side-stood x takes = stood-among c _ (h .among) (end-stood c (only (takesPart v) pairs) _ 0 units (units-tame .unimodular) (h .walked) x (taking-in v x takes))
 
     sides-way : (x : Pair) → way (f .triangle) x ≡ lay s (way m x)
     unfolding found
-    sides-way x = ap (λ (f : Found). way (f .triangle) x) (h .walk .is) ∙ laid-way s m x
+    sides-way x = ap (λ (f : Found). way (f .triangle) x) (h .is) ∙ laid-way s m x
 
-    pub sides-looked : (x : Pair) → T (takesPart (h .levels) x) → BothWays t (way (f .triangle) x)
+    pub sides-looked : (x : Pair) → T (takesPart v x) → BothWays t (way (f .triangle) x)
     sides-looked x takes = rw (sides-way x) (record {
       there = side-stood x takes;
       back = rw (← lay-minus s (way m x), ← turned-way m x) (side-stood (turned x) (turned-takes v x takes));
     })
+
+  -- of a pick
+  module _ {R : ℕ} {f : Found} {t : List Vector} (h : PickParts c R f t) where
+    pub levels-looked : (k : Axis) → T (level (h .levels) k) → BothWays t (lay (c .signs) (unit k))
+    levels-looked k l = let a = h .axis k in both-among (a .among) (level-stood (unit k) (a .is ∙ ap (λ (b : Bool). answered b (a .voxels)) (is-true (level (h .levels) k) l)))
 
     -- the axes asked alone settle which are level
     pub parts-levels : {w : Levels} → LevelsAnswered c w → h .levels ≡ w

@@ -1,5 +1,5 @@
 -- The walk from any ready start: 13 exactly where it has too many looks or all three axes level; else the rounds and the end from what it was handed, whatever that is.
-use mathlib.Core.Path.{_≡_, refl, ap, subst, _∙_}
+use mathlib.Core.Path.{_≡_, refl, sym, ap, subst, _∙_}
 use mathlib.Core.Logic.{_⊎_, inl, inr}
 use mathlib.Core.Bool.{Bool, true, false, not, _&&_}
 use mathlib.Core.List.{List, []}
@@ -22,12 +22,13 @@ use Rattle.rules.specs.Vectors.{origin}
 use Rattle.rules.specs.Solids.{between, permitted, look}
 use Rattle.rules.specs.Asked.{Asked, answered, refused}
 use Rattle.rules.specs.Walk.{Stop, stop, powers, pairs, only, remaining, takesPart, allLevel, Probe, Found, found}
-use Rattle.rules.specs.Pick.{isInside, judging, refusedAnswer}
+use Rattle.rules.specs.Pick.{isInside, acceptedAnswer, refusedAnswer}
 use Rattle.rules.specs.TwoCalls.{isReady, handed, readiness, walkOn, answerFrom, walkAnswer, walkOf}
 use Rattle.laws.specs.Levels.{at-most-3, pairs-taking, some-remain}
 use Rattle.laws.specs.Says.{Says, Few, says-bind, says-test}
+use Rattle.laws.specs.Answered.{voxelsOf}
 use Rattle.laws.specs.Powers.{few-powers, looks-add-up, three-most}
-use Rattle.laws.specs.PickRule.{Passed, JudgingRule, judging-says}
+use Rattle.laws.specs.PickRule.{Passed, judging-says}
 use Rattle.laws.specs.Rounds.{WalkRefusal, WalkFound, roundLooks, to-the-end-says}
 use Rattle.laws.specs.Answers.{stepsOf, looksOf, foundOf, stopOf, CountedSays, answer-from-says}
 use Rattle.range.specs.Ranges.{between-naturals}
@@ -79,7 +80,7 @@ module _ (ok : Bool) (look : Vector → Look) (d : ReadyStart) (frame reach : �
   one-to-four : {number : ℕ} {a : Vector} → (1 ≤ number) × (number ≤ 4) → (HandedPassed → ⊥) → NotBegun (stop number a 0)
   one-to-four h n = (refl, inl (h, n))
 
-  readiness-says : Says (λ _ t. HandedPassed × T (isReady K d) × (t ≡ [])) (λ r t. NotBegun r) (readiness look d frame reach ok)
+  readiness-says : Says (λ _ t. HandedPassed × T (isReady K d)) (λ r t. NotBegun r) (readiness look d frame reach ok)
   unfolding readiness
   readiness-says =
       says-bind {G = λ r t. NotBegun r} _ _
@@ -91,7 +92,7 @@ module _ (ok : Bool) (look : Vector → Look) (d : ReadyStart) (frame reach : �
         fourApex = λ z. one-to-four (omega arith, omega arith) (λ h. T-not (isInside (look (d .apex))) z (h .apexInside));
       }))
       (λ r t k. k)
-      (λ _ t h. rw (h .1) (says-test (isReady K d) _ (λ n. (refl, inr (refl, h .0, not-ready K d n))) (λ r. (h .0, r, refl))))
+      (λ _ t h. says-test (isReady K d) _ (λ n. (refl, inr (refl, h .0, not-ready K d n))) (λ r. (h .0, r)))
 
 -- ---- on a solid
 module _ (solid : Solid) (bytes : List ℕ) (d : ReadyStart) (frame reach : ℤ) where
@@ -126,9 +127,23 @@ module _ (solid : Solid) (bytes : List ℕ) (d : ReadyStart) (frame reach : ℤ)
   unfolding walkOf walkAnswer walkOn
   told = go (readiness (look solid bytes) d frame reach (permitted solid bytes)) (readiness-says (permitted solid bytes) (look solid bytes) d frame reach)
     where
-      go : (x : Asked Stop (Unit {0})) → Says (λ _ t. PassedOn × T (isReady k d) × (t ≡ [])) (λ r t. NotBegunOn r) x → Told (walkAnswer (d .looks) x (walkOn (look solid bytes) d frame reach))
+      go : (x : Asked Stop (Unit {0})) → Says (λ _ t. PassedOn × T (isReady k d)) (λ r t. NotBegunOn r) x → Told (walkAnswer (d .looks) x (walkOn (look solid bytes) d frame reach))
       go (answered _ t) s = begun (s .of .0) (s .of .1) (answer-from-says (d .looks) FoundOn StoppedOn _ (to-the-end-says c R (d .level)))
       go (refused r t) s = notBegun r (s .of) refl
+
+  -- ready: the rounds and the end, and nothing before them
+  pub ready-walks : PassedOn → T (isReady (length (powers (natAbs reach))) d) → walkOf solid bytes d frame reach ≡ answerFrom (d .looks) (walkOn (look solid bytes) d frame reach)
+  unfolding walkOf walkAnswer
+  ready-walks p r = go (readiness (look solid bytes) d frame reach (permitted solid bytes)) (readiness-says (permitted solid bytes) (look solid bytes) d frame reach)
+    where
+      go : (x : Asked Stop (Unit {0})) → Says (λ _ t. PassedOn × T (isReady k d)) (λ r t. NotBegunOn r) x
+          → walkAnswer (d .looks) x (walkOn (look solid bytes) d frame reach) ≡ answerFrom (d .looks) (walkOn (look solid bytes) d frame reach)
+      go (answered _ t) s = refl
+      go (refused e t) s = absurd (begins (s .of .1))
+        where
+          begins : (((1 ≤ e .number) × (e .number ≤ 4)) × (PassedOn → ⊥)) ⊎ ((e ≡ stop 13 origin 0) × PassedOn × NotReady k d) → ⊥
+          begins (inl h) = h .1 p
+          begins (inr h) = T-not (isReady k d) (never-ready k d (h .2)) r
 
   -- 13, exactly where none of 1 to 4 is given and it is not ready
   pub thirteen-when : PassedOn → NotReady (length (powers (natAbs reach))) d → walkOf solid bytes d frame reach ≡ Refused (refusedAnswer (stop 13 origin 0) 0)
@@ -203,3 +218,12 @@ module _ (solid : Solid) (bytes : List ℕ) (d : ReadyStart) (frame reach : ℤ)
 
   pub most-looks-13772 : looksOf (walkOf solid bytes d frame reach) ≤ 13772
   most-looks-13772 = most-looks 13772 (λ h. let l : 6 * max R 3 - 6 ≤ 1530 = omega (arith, h) in omega (arith, NatL.mul-le-mul (few-powers R h) l))
+
+-- an accepted record is what the rounds and the end answered
+pub accepted-walk : (n : ℕ) (x : Asked Stop (Unit {0})) (y : Asked Stop Found) {a : AcceptedPick} → walkAnswer n x y ≡ Accepted a → (y ≡ answered (foundOf a) (voxelsOf y)) × (a .looks ≡ n + length (voxelsOf y))
+unfolding walkAnswer answerFrom
+accepted-walk n (answered _ t) (answered f u) {a} e =
+    let is : acceptedAnswer f (n + length u) ≡ a = cc in
+    (ap (λ (a : AcceptedPick). answered (foundOf a) u) is, ap (λ (a : AcceptedPick). a .looks) (sym is))
+accepted-walk n (answered _ t) (refused r u) e = absurd (let z : _≡_ {A = ℕ} 0 1 = cc in omega arith)
+accepted-walk n (refused r t) y e = absurd (let z : _≡_ {A = ℕ} 0 1 = cc in omega arith)

@@ -1,4 +1,4 @@
--- What holds of the definitions of documents 01 and 02 on every solid. `Theorems` states it by name; the others are the lemmas.
+-- What holds of the definitions of documents 01 and 02 on every solid. `Theorems` and `TwoCalls` state it by name; the others are the lemmas.
 pub mod Tests
 pub mod Only
 pub mod Parts
@@ -32,7 +32,10 @@ pub mod Picks
 pub mod Touches
 pub mod Answers
 pub mod Handed
+pub mod Row
+pub mod Beyond
 pub mod Touched
 pub mod BothWays
 pub mod Stacks
 pub mod Theorems
+pub mod TwoCalls

@@ -8,8 +8,8 @@ use Rattle.rules.specs.declared.Vector.{Vector}
 use Rattle.rules.specs.declared.Look.{Look}
 use Rattle.rules.specs.declared.Levels.{Levels}
 use Rattle.rules.specs.declared.Triangle.{Triangle}
-use Rattle.rules.specs.Asked.{answered, _>>=_}
-use Rattle.rules.specs.Walk.{Axis, axis0, axis1, axis2, unit, levels, level, Probe, Found, facing, isLevel, axes, start, rounds, found, end}
+use Rattle.rules.specs.Asked.{answered}
+use Rattle.rules.specs.Walk.{Axis, axis0, axis1, axis2, unit, levels, level, Probe, Found, facing, isLevel, axes, start, rounds, found, end, toTheEnd}
 use Rattle.rules.specs.Pick.{probe, judging, check, pick}
 use Rattle.laws.specs.Answered.{Among, among-more, both-answered, ensured-answered}
 
@@ -54,7 +54,7 @@ module _ (c : Probe) where
   walk-among : {R : ℕ} {v : Levels} {f : Found} {t u : List Vector} → Among t u → WalkPart R v f t → WalkPart R v f u
   walk-among a h = record { end = h .end; voxels = h .voxels; walked = h .walked; among = among-more (h .among) a; is = h .is }
 
-  walk-part : (R : ℕ) (v : Levels) {f : Found} {t : List Vector} → (rounds c R v >>= end c R v) ≡ answered f t → WalkPart R v f t
+  pub walk-part : (R : ℕ) (v : Levels) {f : Found} {t : List Vector} → toTheEnd c R v ≡ answered f t → WalkPart R v f t
   unfolding end
   walk-part R v e =
       let a = both-answered (rounds c R v) _ e in

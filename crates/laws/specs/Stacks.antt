@@ -1,17 +1,18 @@
 -- On a stack no reach above 64 is accepted. A level axis, and the walk's end, looked both ways from q at every power, so at one of at least 128: in a box of
--- at most 256 a side a vector that stays inside both ways there is zero. No unit vector is, and a triangle with m0 = m1 has determinant 0, not 1.
+-- at most 256 a side a vector that stays inside both ways there is zero. No unit vector is, and a triangle with two equal vectors has determinant 0, not 1.
+-- A walk from a ready start looked at no level axis: there it holds where a pair takes part.
 use mathlib.Core.Path.{_≡_, refl, sym, ap, subst, _∙_}
 use mathlib.Core.Logic.{inl, inr}
 use mathlib.Core.Bool.{Bool, true, false, not}
 use mathlib.Core.List.{List, [], _∷_}
-use Prim.Native.Nat.{ℕ, zero, suc, _*_, _≤_}
+use Prim.Native.Nat.{ℕ, zero, suc, _*_, _≤_, _<_}
 use native.Mathlib.Nat as NatL
 use native.Mathlib.Omega.{arith}
 use lib.Dec.{T, leb, leb→le, nleb→lt}
 use mir.Facts.{yes-and}
 use lib.IntN.{ℤ, pos, negsuc, negℤ, natAbs, _+ℤ_, _-ℤ_, _*ℤ_}
 use lib.Signed.{_≤ℤ_}
-use Rattle.integers.specs.Reify.{byring, sides, by-eq}
+use Rattle.integers.specs.Reify.{byring, sides}
 use Rattle.integers.specs.Order.{parts, linear, atom, fact}
 use Rattle.integers.specs.Sizes.{Within, sizes, product-size}
 use Rattle.rules.specs.declared.Vector.{Vector}
@@ -22,24 +23,28 @@ use Rattle.rules.specs.declared.Accepted.{Accepted as AcceptedPick}
 use Rattle.rules.specs.declared.Pick.the-variants.{Accepted}
 use Rattle.rules.specs.declared.Triangle.{Triangle}
 use Rattle.rules.specs.declared.Pair.{Pair}
-use Rattle.rules.specs.declared.Pair.the-variants.{P01, P10}
-use Rattle.rules.specs.Vectors.{_⊖_, minus, lay, dot, cross, det}
-use Rattle.rules.specs.Walk.{Axis, axis0, axis1, axis2, unit, pairs, way, level, only, takesPart, Probe}
-use Rattle.rules.specs.Solids.{permittedStack, look}
-use Rattle.rules.specs.Pick.{isInside, pickOf}
+use Rattle.rules.specs.declared.Pair.the-variants.{P01}
+use Rattle.rules.specs.declared.ReadyStart.{ReadyStart}
+use Rattle.rules.specs.Vectors.{_⊖_, minus, lay, dot, cross, det, origin}
+use Rattle.rules.specs.Walk.{Axis, axis0, axis1, axis2, unit, withVector, pairs, from, first, second, way, with, only, takesPart, Probe, Found}
+use Rattle.rules.specs.Solids.{between, permittedStack, look}
+use Rattle.rules.specs.Pick.{isInside, probeFrom, pickOf}
+use Rattle.rules.specs.TwoCalls.{walkOf}
 use Rattle.range.specs.Ranges.{between-naturals}
 use Rattle.laws.specs.Only.{each-member, taking-in}
-use Rattle.laws.specs.Parts.{part, part-of, part-sum, part-scale, part-minus, part-lay, difference-turned}
-use Rattle.laws.specs.Triples.{detOf, of9}
+use Rattle.laws.specs.Parts.{part, part-of, part-sum, part-scale, part-minus, part-lay, part-origin, vector-by-parts, difference-turned}
+use Rattle.laws.specs.Triples.{detOf, of9, step-det}
+use Rattle.laws.specs.Tame.{turned}
 use Rattle.laws.specs.Frames.{IsSign, Signs, signs-are, sign-size}
 use Rattle.laws.specs.Looks.{along, FellAt, Fell}
 use Rattle.laws.specs.Powers.{Reaches, powers-128}
 use Rattle.laws.specs.Ranges.{Between, InCube}
 use Rattle.laws.specs.Boxes.{stack-cube}
 use Rattle.laws.specs.Axes.{FellAlong, AxesOf}
-use Rattle.laws.specs.Rounds.{End}
-use Rattle.laws.specs.Picks.{PickFound}
+use Rattle.laws.specs.Rounds.{End, WalkFound}
 use Rattle.laws.specs.Answers.{foundOf, accepted-tells}
+use Rattle.laws.specs.Handed.{walk-accepted}
+use Rattle.laws.specs.BothWays.{turned-takes, turned-way}
 
 -- two ways that did not fall were looked at, at one power of at least M, inside the box
 both-in : (c : Probe) (u v : Vector) (M : ℕ) (ls : List ℕ) → Reaches M ls → FellAt c u ls false → FellAt c v ls false
@@ -80,13 +85,18 @@ unit-one axis0 = refl
 unit-one axis1 = refl
 unit-one axis2 = refl
 
-equal-flat : (m : Triangle) → ((k : Axis) → part k (m .m1 ⊖ m .m0) ≡ pos 0) → detOf m ≡ pos 0
-unfolding det dot cross _⊖_
-equal-flat m h =
-    by-eq (m .m2 .y *ℤ m .m0 .z -ℤ m .m2 .z *ℤ m .m0 .y) (h axis0)
-    (by-eq (m .m2 .z *ℤ m .m0 .x -ℤ m .m2 .x *ℤ m .m0 .z) (h axis1)
-    (by-eq (m .m2 .x *ℤ m .m0 .y -ℤ m .m2 .y *ℤ m .m0 .x) (h axis2)
-    (byring (of9 m) (search sides depth 40 fits 5000) tt)))
+zero-flat : (m : Triangle) (k : Axis) → detOf (withVector m k origin) ≡ pos 0
+unfolding det dot cross
+zero-flat m axis0 = byring (of9 m) (search sides depth 40 fits 5000) tt
+zero-flat m axis1 = byring (of9 m) (search sides depth 40 fits 5000) tt
+zero-flat m axis2 = byring (of9 m) (search sides depth 40 fits 5000) tt
+
+-- m_k less m_l is put in by a step, which keeps the determinant
+equal-flat : (m : Triangle) (x : Pair) → ((k : Axis) → part k (way m x) ≡ pos 0) → detOf m ≡ pos 0
+equal-flat m x h = sym (step-det m x) ∙ ap (λ a. detOf (with m x a)) gone ∙ zero-flat m (from x)
+  where
+    gone : first m x ⊖ second m x ≡ origin
+    gone = difference-turned (first m x) (second m x) ∙ vector-by-parts (λ k. part-minus k (way m x) ∙ ap negℤ (h k) ∙ sym (part-origin k))
 
 module _ (c : Probe) (box : (p : Vector) → T (isInside (c .look p)) → InCube 255 p) (signed : Signs (c .signs)) (far : Reaches 128 (c .powers)) where
   abbrev q : Vector
@@ -111,29 +121,47 @@ module _ (c : Probe) (box : (p : Vector) → T (isInside (c .look p)) → InCube
   no-level k false f = tt
   no-level k true f = let o : pos 1 ≡ pos 0 = sym (unit-one k) ∙ still (unit k) (f .1) (f .0) k in absurd (omega (arith, parts))
 
-  too-far : (R : ℕ) (v : Levels) (e : Triangle × ℕ) → AxesOf c v → End c R v e → ⊥
-  unfolding takesPart
-  too-far R v e a h =
+  -- the ways of a pair that takes part and of the pair turned round
+  too-far : (R : ℕ) (v : Levels) (e : Triangle × ℕ) → End c R v e → (x : Pair) → T (takesPart v x) → ⊥
+  too-far R v e h x t =
       let m = e .0 in
       let stood : (x : Pair) → T (takesPart v x) → Fell c (way m x) false = λ x t. each-member (λ x. Fell c (way m x) false) x (only (takesPart v) pairs) (h .stood) (taking-in v x t) in
-      let x = no-level axis0 (level v axis0) (a .axis axis0 .fell) in
-      let y = no-level axis1 (level v axis1) (a .axis axis1 .fell) in
-      let f = stood P01 (yes-and (not (v .x)) (not (v .y)) x y) in
-      let g = subst (λ u. Fell c u false) (difference-turned (m .m0) (m .m1)) (stood P10 (yes-and (not (v .y)) (not (v .x)) y x)) in
-      let o : pos 1 ≡ pos 0 = sym (h .tame .unimodular) ∙ equal-flat m (still (way m P01) f g) in
+      let back = subst (λ u. Fell c u false) (turned-way m x) (stood (turned x) (turned-takes v x t)) in
+      let o : pos 1 ≡ pos 0 = sym (h .tame .unimodular) ∙ equal-flat m x (still (way m x) (stood x t) back) in
       omega (arith, parts)
 
+  none-level : (v : Levels) → AxesOf c v → T (takesPart v P01)
+  unfolding takesPart
+  none-level v a = yes-and (not (v .x)) (not (v .y)) (no-level axis0 (v .x) (a .axis axis0 .fell)) (no-level axis1 (v .y) (a .axis axis1 .fell))
+
+-- so a walk that found something, of which a pair takes part if the reach is above 64, has none above
+module _ (stack : Stack) (bytes : List ℕ) (q : Vector) (frame reach : ℤ) (ok : T (permittedStack stack bytes)) (range : T (between (pos 1) reach (pos 256))) where
+  abbrev c : Probe
+  c = probeFrom (look (IsStack stack) bytes) q frame reach
+
+  at-most-64 : (v : Levels) (f : Found) → WalkFound c (natAbs reach) v f → (64 < natAbs reach → (x : Pair) × T (takesPart v x)) → reach ≤ℤ pos 64
+  at-most-64 v f w pair =
+      let R = between-naturals 1 256 reach range in
+      let small = go (leb (natAbs reach) 64) refl in
+      omega (arith, parts, R .2)
+    where
+      go : (b : Bool) → leb (natAbs reach) 64 ≡ b → natAbs reach ≤ 64
+      go true k = leb→le (natAbs reach) 64 (rw k tt)
+      go false k =
+          let far = nleb→lt (natAbs reach) 64 (rw k tt) in
+          let x = pair far in
+          absurd (too-far c (stack-cube stack bytes ok) (signs-are (natAbs frame)) (powers-128 (natAbs reach) far) _ v (w .at) (w .end) (x .0) (x .1))
+
+-- of a pick no axis would be level
 pub stack-reach : (stack : Stack) (bytes : List ℕ) (p : Vector) (frame reach : ℤ) (a : AcceptedPick) → pickOf (IsStack stack) bytes p frame reach ≡ Accepted a → reach ≤ℤ pos 64
 stack-reach stack bytes p frame reach a is =
-    let R = between-naturals 1 256 reach (h .passed .permittedReach) in
-    let small = go (leb (natAbs reach) 64) refl in
-    omega (arith, parts, R .2)
-  where
-    h : PickFound (permittedStack stack bytes) (look (IsStack stack) bytes) p frame reach (foundOf a)
-    h = accepted-tells (IsStack stack) bytes p frame reach a is
+    let h = accepted-tells (IsStack stack) bytes p frame reach a is in
+    let o = h .accepting in
+    at-most-64 stack bytes _ frame reach (h .passed .permittedSolid) (h .passed .permittedReach) (o .level) (foundOf a) (o .walked)
+    (λ far. (P01, none-level _ (stack-cube stack bytes (h .passed .permittedSolid)) (signs-are (natAbs frame)) (powers-128 (natAbs reach) far) (o .level) (o .asked)))
 
-    go : (b : Bool) → leb (natAbs reach) 64 ≡ b → natAbs reach ≤ 64
-    go true k = leb→le (natAbs reach) 64 (rw k tt)
-    go false k =
-        let o = h .accepting in
-        absurd (too-far _ (stack-cube stack bytes (h .passed .permittedSolid)) (signs-are (natAbs frame)) (powers-128 (natAbs reach) (nleb→lt (natAbs reach) 64 (rw k tt))) _ (o .level) (o .walked .at) (o .asked) (o .walked .end))
+-- a walk from a ready start of which a pair takes part
+pub walk-stack-reach : (stack : Stack) (bytes : List ℕ) (d : ReadyStart) (frame reach : ℤ) (a : AcceptedPick) → walkOf (IsStack stack) bytes d frame reach ≡ Accepted a → (x : Pair) → T (takesPart (d .level) x) → reach ≤ℤ pos 64
+walk-stack-reach stack bytes d frame reach a is x takes =
+    let h = walk-accepted (IsStack stack) bytes d frame reach a is in
+    at-most-64 stack bytes (d .apex) frame reach (h .0 .permittedSolid) (h .0 .permittedReach) (d .level) (foundOf a) (h .1) (λ _. (x, takes))

@@ -1,4 +1,5 @@
--- What holds on every solid, wedge or stack, for every pick and every quick touch: the statements. The proofs are in the modules beside.
+-- What holds on every solid, wedge or stack, for every pick and every quick touch: the statements. The proofs are in the modules beside. `TwoCalls` has those on the
+-- start check and the walk from a ready start.
 use mathlib.Core.Path.{_≡_, refl, sym, ap, subst, _∙_}
 use mathlib.Core.Bool.{false, not}
 use mathlib.Core.List.{List, []}
@@ -222,7 +223,7 @@ module _ (solid : Solid) (bytes : List ℕ) (p : Vector) (frame reach : ℤ) whe
     level-both-ways k l = levels-looked c parts-here k (rw levels-here l)
 
     pub sides-both-ways : (x : Pair) → T (takesPart (levelsOf (a .normal)) x) → LookedBothWays (way (a .triangle) x)
-    sides-both-ways x takes = sides-looked c parts-here x (rw levels-here takes)
+    sides-both-ways x takes = sides-looked c (parts-here .walk) x (rw levels-here takes)
 
     -- with no level axis, as document 01 has it
     module _ (none : (k : Axis) → isZero (part k (a .normal)) ≡ false) where
