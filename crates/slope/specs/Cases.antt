@@ -17,6 +17,8 @@ use Rattle.rules.specs.declared.Wedge.{Wedge}
 use Rattle.rules.specs.declared.Solid.the-variants.{Wedge as IsWedge, Stack as IsStack}
 use Rattle.rules.specs.declared.Look.the-variants.{Filled, Empty}
 use Rattle.rules.specs.declared.Triangle.{Triangle}
+use Rattle.rules.specs.declared.Accepted.{Accepted as AcceptedPick}
+use Rattle.rules.specs.declared.Refused.{Refused as RefusedPick}
 use Rattle.rules.specs.declared.Pick.{Pick}
 use Rattle.rules.specs.declared.Pick.the-variants.{Accepted, Refused}
 use Rattle.rules.specs.Vectors.{vector, _⊕_, _⊖_, minus, scale, dot, cross, det, sphere, lay, size, origin, unit0, unit2}
@@ -51,29 +53,30 @@ module _ (n w : Vector) (one : dot n w ≡ pos 1) where
   not-all-zero e = let z : pos 0 ≡ pos 1 = sym (origin-dot w) ∙ ap (λ (a : Vector). dot a w) (sym e) ∙ one in omega (arith, parts)
 
 -- ---- the outcome of a pick
-data Outcome : Type 0 where
+pub data Outcome : Type 0 where
   N : Vector → ℕ → ℕ → Outcome
   R : ℕ → Outcome
 
-outcome : Pick → Outcome
+unfoldable pub outcome : Pick → Outcome
 outcome (Accepted a) = N (a .normal) (a .steps) (a .looks)
 outcome (Refused r) = R (r .number)
 
-accepts : {n : Vector} {t : ℤ} {i : Inputs} {steps looks : ℕ} → OnSlope n t i → outcome (pickAt i) ≡ N n steps looks → Accepts n t i steps looks
+-- which tells the answer
+pub accepted-as : (x : Pick) {n : Vector} {steps looks : ℕ} → outcome x ≡ N n steps looks → (a : AcceptedPick) × (x ≡ Accepted a) × (a .normal ≡ n) × (a .steps ≡ steps) × (a .looks ≡ looks)
 unfolding outcome
-accepts {n} {t} {i} {steps} {looks} o e = go (pickAt i) refl e
-  where
-    go : (x : Pick) → pickAt i ≡ x → outcome x ≡ N n steps looks → Accepts n t i steps looks
-    go (Accepted a) is e = record { onSlope = o; answer = a; is = is; isNormal = cc e; stepsAre = cc e; looksAre = cc e }
-    go (Refused r) is e = absurd (let z : _≡_ {A = ℕ} 0 1 = cc e in omega arith)
+accepted-as (Accepted a) e = (a, refl, cc e, cc e, cc e)
+accepted-as (Refused r) e = absurd (let z : _≡_ {A = ℕ} 0 1 = cc e in omega arith)
+
+pub refused-as : (x : Pick) {number : ℕ} → outcome x ≡ R number → (r : RefusedPick) × (x ≡ Refused r) × (r .number ≡ number)
+unfolding outcome
+refused-as (Accepted a) e = absurd (let z : _≡_ {A = ℕ} 0 1 = cc e in omega arith)
+refused-as (Refused r) e = (r, refl, cc e)
+
+accepts : {n : Vector} {t : ℤ} {i : Inputs} {steps looks : ℕ} → OnSlope n t i → outcome (pickAt i) ≡ N n steps looks → Accepts n t i steps looks
+accepts {i = i} o e = let h = accepted-as (pickAt i) e in record { onSlope = o; answer = h .0; is = h .1; isNormal = h .2; stepsAre = h .3; looksAre = h .4 }
 
 refuses : {n : Vector} {t : ℤ} {i : Inputs} → OnSlope n t i → outcome (pickAt i) ≡ R 8 → Refuses n t i
-unfolding outcome
-refuses {n} {t} {i} o e = go (pickAt i) refl e
-  where
-    go : (x : Pick) → pickAt i ≡ x → outcome x ≡ R 8 → Refuses n t i
-    go (Accepted a) is e = absurd (let z : _≡_ {A = ℕ} 0 1 = cc e in omega arith)
-    go (Refused r) is e = record { onSlope = o; answer = r; is = is; isEight = cc e }
+refuses {i = i} o e = let h = refused-as (pickAt i) e in record { onSlope = o; answer = h .0; is = h .1; isEight = h .2 }
 
 -- ---- wedges: every assumption is a test
 abbrev wedgeOf : ℤ → ℤ → ℤ → ℤ → Wedge
@@ -146,7 +149,7 @@ on-stair = record {
 }
 
 pub not-empty : NotEmpty
-unfolding outcome _⊕_ _⊖_ minus scale dot cross det sphere lay size between permittedWedge filledWedge inBox look rowBytes voxel filledStack permittedStack stackBytes sliceBytes stairBytes slices rows row after _>>=_ ensure sign signs seen asked powersFrom powers normal allLevel keep only remaining takesPart levelled determinant inside anyInside firstFree choice lookAt fallsAt facing isLevel axes start falling roundOf walk rounds found end isInside placing judging check pick answer pickOf accepts
+unfolding outcome _⊕_ _⊖_ minus scale dot cross det sphere lay size between permittedWedge filledWedge inBox look rowBytes voxel filledStack permittedStack stackBytes sliceBytes stairBytes slices rows row after _>>=_ ensure sign signs seen asked powersFrom powers normal allLevel keep only remaining takesPart levelled determinant inside anyInside firstFree choice lookAt fallsAt facing isLevel axes start falling roundOf walk rounds found end isInside placing judging check pick answer pickOf accepted-as accepts
 not-empty = record {
   W1 = accepts (on-line (on-wedge (pos 1) unit0 tt tt tt tt tt tt refl tt tt refl refl refl) tt tt) refl;
   W2 = accepts (on-line (on-wedge (pos 1) unit0 tt tt tt tt tt tt refl tt tt refl refl refl) tt tt) refl;
