@@ -67,9 +67,7 @@ fn span_of(begin: Begin, reach: u32) -> u32
     ensures { λ r. ⌜ r ≡ spanOf begin reach ⌝ }
 {
     match begin {
-        Begin::Asked(quick, _) => {
-            if quick { 1 } else { reach }
-        }
+        Begin::Asked(quick, _) => { if quick { 1 } else { reach } }
         Begin::Handed(_) => reach,
     }
 }
