@@ -94,13 +94,13 @@ sum-fits begin frame ok hp ha e hs =
 
 module _ {begin : Begin} {solid : Solid} {bytes : List ℕ} (ok : PermittedSolid solid bytes) {p : Vector} {frame R : ℕ} {a : Bool} (hp : p ≡ startOf begin) (ha : a ≡ inBox (box solid) p) where
   pub placed-outside : {r : Refused} → a ≡ false → r ≡ refusalOf 4 p 0 0 → PlacesJudged begin solid bytes frame R (FitRefused r)
-  placed-outside e f = record { gives = rw (f, hp) (start-outside-box (probeOf (sceneOf begin solid frame R) bytes) (startOf begin) (inside-is solid bytes hp ha e)); fits = tt }
+  placed-outside e f = record { gives = rw (f, hp) (start-outside-box (probeOf (sceneOf begin solid frame R) bytes) (startOf begin) (inside-is solid bytes hp ha e)); fits = ap (λ (r : Refused). r .looks) f }
 
   module _ {s q : Vector} {b : Bool} (hs : s ≡ signs frame) (hq : q ≡ apexOf begin s) (hb : b ≡ inBox (box solid) q) (e : a ≡ true) where
     pub placed-apex-outside : {r : Refused} → b ≡ false → r ≡ refusalOf 4 q 0 0 → PlacesJudged begin solid bytes frame R (FitRefused r)
     placed-apex-outside g f =
         let i = apex-is begin frame hs hq in
-        record { gives = rw (f, i) (apex-outside-box (probeOf (sceneOf begin solid frame R) bytes) (startOf begin) (inside-is solid bytes hp ha e) (inside-is solid bytes i hb g)); fits = tt }
+        record { gives = rw (f, i) (apex-outside-box (probeOf (sceneOf begin solid frame R) bytes) (startOf begin) (inside-is solid bytes hp ha e) (inside-is solid bytes i hb g)); fits = ap (λ (r : Refused). r .looks) f }
 
     pub placed-inside : {span : ℕ} → span ≡ spanOf begin R → b ≡ true → R ≤ 256 → PlacesJudged begin solid bytes frame R (FitScene record { solid = solid; apex = q; signs = s; span = span; reach = R })
     placed-inside hl g h =
@@ -118,15 +118,15 @@ pub ruleset placing-judged = (placed-outside, placed-apex-outside, placed-inside
 -- ---- the inputs
 module _ {begin : Begin} {solid : Solid} {bytes : List ℕ} {frame reach : ℤ} {a : Bool} (ha : a ≡ between (pos 1) reach (pos 256)) where
   pub judged-reach : {r : Refused} → a ≡ false → r ≡ refusalOf 1 origin 0 0 → InputsJudged begin solid bytes frame reach (FitRefused r)
-  judged-reach e f = record { gives = rw f (reach-refused (permitted solid bytes) (probeJudged begin solid bytes frame reach) (startOf begin) frame reach (sym ha ∙ e)); fits = tt }
+  judged-reach e f = record { gives = rw f (reach-refused (permitted solid bytes) (probeJudged begin solid bytes frame reach) (startOf begin) frame reach (sym ha ∙ e)); fits = ap (λ (r : Refused). r .looks) f }
 
   module _ {b : Bool} (hb : b ≡ between (pos 0) frame (pos 7)) where
     pub judged-frame : {r : Refused} → a ≡ true → b ≡ false → r ≡ refusalOf 2 origin 0 0 → InputsJudged begin solid bytes frame reach (FitRefused r)
-    judged-frame e g f = record { gives = rw f (frame-refused (permitted solid bytes) (probeJudged begin solid bytes frame reach) (startOf begin) frame reach (sym ha ∙ e) (sym hb ∙ g)); fits = tt }
+    judged-frame e g f = record { gives = rw f (frame-refused (permitted solid bytes) (probeJudged begin solid bytes frame reach) (startOf begin) frame reach (sym ha ∙ e) (sym hb ∙ g)); fits = ap (λ (r : Refused). r .looks) f }
 
     module _ {d : Bool} (hd : d ≡ permitted solid bytes) where
       pub judged-solid : {r : Refused} → a ≡ true → b ≡ true → d ≡ false → r ≡ refusalOf 3 origin 0 0 → InputsJudged begin solid bytes frame reach (FitRefused r)
-      judged-solid e g k f = record { gives = rw f (solid-refused (permitted solid bytes) (probeJudged begin solid bytes frame reach) (startOf begin) frame reach (sym ha ∙ e) (sym hb ∙ g) (sym hd ∙ k)); fits = tt }
+      judged-solid e g k f = record { gives = rw f (solid-refused (permitted solid bytes) (probeJudged begin solid bytes frame reach) (startOf begin) frame reach (sym ha ∙ e) (sym hb ∙ g) (sym hd ∙ k)); fits = ap (λ (r : Refused). r .looks) f }
 
       pub judged-placed : {r : Fit} → a ≡ true → b ≡ true → d ≡ true → PlacesJudged begin solid bytes (natAbs frame) (natAbs reach) r → InputsJudged begin solid bytes frame reach r
       unfolding placing

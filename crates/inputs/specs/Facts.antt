@@ -24,6 +24,9 @@ module _ {begin : Begin} {solid : Solid} {bytes : List ℕ} {frame reach : ℤ} 
   pub inputs-refused : {r : Refused} → fit ≡ FitRefused r → Gives 0 (judgingOf begin solid bytes frame reach) (refusalTally r)
   inputs-refused e = rw e at (h .gives)
 
+  pub refused-unlooked : {r : Refused} → fit ≡ FitRefused r → r .looks ≡ 0
+  refused-unlooked e = rw e at (h .fits)
+
   module _ {v : Scene} (e : fit ≡ FitScene v) where
     pub inputs-good : Gives 0 (judgingOf begin solid bytes frame reach) (yes tt 0)
     inputs-good = rw e at (h .gives)

@@ -44,10 +44,10 @@ spanOf (Handed d) R = R
 abbrev pub sceneOf : Begin → Solid → ℕ → ℕ → Scene
 sceneOf begin solid frame R = record { solid = solid; apex = apexOf begin (signs frame); signs = signs frame; span = spanOf begin R; reach = R }
 
--- where none is refused it is that scene, and every question may be asked in it
+-- where none is refused it is that scene, and every question may be asked in it; no refusal has looks
 abbrev pub FitsTo : Begin → Solid → List ℕ → ℕ → ℕ → Fit → Type 0
 FitsTo begin solid bytes frame R (FitScene v) = (v ≡ sceneOf begin solid frame R) × Ready v bytes
-FitsTo begin solid bytes frame R (FitRefused r) = Unit {0}
+FitsTo begin solid bytes frame R (FitRefused r) = r .looks ≡ 0
 
 pub record PlacesJudged (begin : Begin) (solid : Solid) (bytes : List ℕ) (frame R : ℕ) (r : Fit) : Type 0 where
   pub gives : Gives 0 (placing (probeOf (sceneOf begin solid frame R) bytes) (startOf begin)) (fitTally r)
