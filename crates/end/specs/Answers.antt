@@ -1,5 +1,5 @@
 -- An answer that tells what a question gives is the definition's.
-use mathlib.Core.Path.{_≡_, refl, ap, _∙_}
+use mathlib.Core.Path.{_≡_, refl, sym, ap, _∙_}
 use Prim.Native.Nat.{ℕ}
 use native.Mathlib.Omega.{arith}
 use Rattle.rules.specs.declared.Pick.{Pick}
@@ -7,6 +7,7 @@ use Rattle.rules.specs.declared.Pick.the-variants.{Accepted, Refused as IsRefus
 use Rattle.rules.specs.Asked.{Asked, answered, refused}
 use Rattle.rules.specs.Walk.{Stop, Found}
 use Rattle.rules.specs.Pick.{acceptedAnswer, refusedAnswer, answer}
+use Rattle.rules.specs.TwoCalls.{answerFrom}
 use Rattle.laws.specs.Tally.{Tally, yes, no, tally, Gives}
 use Rattle.end.specs.End.{pickTally}
 
@@ -19,10 +20,23 @@ unfolding answerOf
 tally-of (Accepted a) = refl
 tally-of (IsRefused a) = refl
 
-tally-answer : (x : Asked Stop Found) → answerOf (tally 0 x) ≡ answer x
-unfolding answerOf tally answer
-tally-answer (answered f t) = ap (λ (n : ℕ). answerOf (yes f n)) (omega arith)
-tally-answer (refused e t) = ap (λ (n : ℕ). answerOf (no e n)) (omega arith)
+-- counted on from n looks
+pub tally-answer : (n : ℕ) (x : Asked Stop Found) → answerOf (tally n x) ≡ answerFrom n x
+unfolding answerOf tally answerFrom
+tally-answer n (answered f t) = refl
+tally-answer n (refused e t) = refl
+
+pub answer-from-none : (x : Asked Stop Found) → answerFrom 0 x ≡ answer x
+unfolding answerFrom answer
+answer-from-none (answered f t) = ap (λ (n : ℕ). Accepted (acceptedAnswer f n)) (omega arith)
+answer-from-none (refused e t) = ap (λ (n : ℕ). IsRefused (refusedAnswer e n)) (omega arith)
+
+pub is-answer-from : {n : ℕ} (x : Asked Stop Found) {r : Pick} → Gives n x (pickTally r) → r ≡ answerFrom n x
+is-answer-from {n} x {r} h = tally-of r ∙ ap answerOf (h .is) ∙ tally-answer n x
 
 pub is-answer : (x : Asked Stop Found) {r : Pick} → Gives 0 x (pickTally r) → r ≡ answer x
-is-answer x {r} h = tally-of r ∙ ap answerOf (h .is) ∙ tally-answer x
+is-answer x h = is-answer-from x h ∙ answer-from-none x
+
+-- a question that goes on from n looks as y does has y's answer, counted on from there
+pub answer-onward : (n : ℕ) (x y : Asked Stop Found) → Gives 0 x (tally n y) → answerFrom n y ≡ answer x
+answer-onward n x y h = sym (tally-answer n y) ∙ ap answerOf (h .is) ∙ tally-answer 0 x ∙ answer-from-none x

@@ -7,22 +7,26 @@ use lib.Dec.{lit≤}
 use lib.IntN.{ℤ, pos, natAbs}
 use Rattle.rules.specs.declared.Vector.{Vector}
 use Rattle.rules.specs.declared.Solid.{Solid}
-use Rattle.rules.specs.declared.Look.{Look}
 use Rattle.rules.specs.declared.Refused.{Refused}
 use Rattle.rules.specs.Vectors.{_⊕_, origin}
 use Rattle.rules.specs.Solids.{between, permitted, box, inBox, look}
 use Rattle.rules.specs.Asked.{Asked}
 use Rattle.rules.specs.Walk.{Stop, stop, signs, Probe}
-use Rattle.rules.specs.Pick.{isInside, probe, placing, judging}
+use Rattle.rules.specs.Pick.{isInside, placing, judging}
 use Rattle.laws.specs.Frames.{signs-are}
+use Rattle.laws.specs.Bounds.{Bounded, bounded-is, bounded-wider}
 use Rattle.laws.specs.Boxes.{look-inside}
 use Rattle.laws.specs.Tally.{Tally, yes, no, Gives, then-yes, then-no, ensured, not-ensured}
 use Rattle.solid.specs.Asks.{PermittedSolid}
+use Rattle.solid.specs.Facts.{inside-bounded}
+use Rattle.falls.specs.Sizes.{signs-bounded}
 use Rattle.falls.specs.Scene.{probeOf}
 use Rattle.walk.specs.Walk.{refusalOf}
+use Rattle.inputs.specs.declared.Begin.{Begin}
+use Rattle.inputs.specs.declared.Begin.the-variants.{Asked as IsAsked, Handed}
 use Rattle.inputs.specs.declared.Fit.{Fit}
 use Rattle.inputs.specs.declared.Fit.the-variants.{Scene as FitScene, Refused as FitRefused}
-use Rattle.inputs.specs.Inputs.{spanOf, sceneOf, PlacesJudged, InputsJudged}
+use Rattle.inputs.specs.Inputs.{startOf, apexOf, spanOf, sceneOf, probeJudged, PlacesJudged, InputsJudged}
 
 -- ---- refusal 4
 module _ (c : Probe) (p : Vector) where
@@ -40,9 +44,9 @@ module _ (c : Probe) (p : Vector) where
     both-inside b = then-yes _ (ensured (stop 4 p 0) a) (ensured (stop 4 (c .apex) 0) b)
 
 -- ---- refusals 1, 2, 3
-module _ (allowed : Bool) (look : Vector → Look) (p : Vector) (frame reach : ℤ) where
+module _ (allowed : Bool) (c : Probe) (p : Vector) (frame reach : ℤ) where
   abbrev judgement : Asked Stop (Unit {0})
-  judgement = judging allowed look p frame reach
+  judgement = judging allowed c p frame reach
 
   reach-refused : between (pos 1) reach (pos 256) ≡ false → Gives 0 judgement (no (stop 1 origin 0) 0)
   unfolding judging
@@ -58,57 +62,72 @@ module _ (allowed : Bool) (look : Vector → Look) (p : Vector) (frame reach : �
       unfolding judging
       solid-refused e = then-yes _ (ensured (stop 1 origin 0) a) (then-yes _ (ensured (stop 2 origin 0) b) (then-no _ (not-ensured e)))
 
-      solid-permitted : {r : Tally Stop (Unit {0})} → allowed ≡ true → Gives 0 (placing (probe look p frame reach) p) r → Gives 0 judgement r
+      solid-permitted : {r : Tally Stop (Unit {0})} → allowed ≡ true → Gives 0 (placing c p) r → Gives 0 judgement r
       unfolding judging
       solid-permitted e h = then-yes _ (ensured (stop 1 origin 0) a) (then-yes _ (ensured (stop 2 origin 0) b) (then-yes _ (ensured (stop 3 origin 0) e) h))
 
-span-high : (quick : Bool) (R : ℕ) → R ≤ 256 → spanOf quick R ≤ 256
-span-high true R h = lit≤ tt
-span-high false R h = h
+-- ---- where the rounds begin
+module _ {begin : Begin} {quick : Bool} {p : Vector} (e : begin ≡ IsAsked quick p) where
+  pub start-fits : Bounded 1000000000 (startOf begin) → Bounded 1000000000 p
+  start-fits h = rw e at h
 
--- ---- from what the tests found to what is promised: the apex, as it was computed and judged
-apex-is : (p : Vector) (frame : ℕ) {s q : Vector} → s ≡ signs frame → q ≡ p ⊕ s → q ≡ p ⊕ signs frame
-apex-is p frame hs hq = hq ∙ ap (λ (s : Vector). p ⊕ s) hs
+  pub apex-added : (s : Vector) {q : Vector} → q ≡ p ⊕ s → q ≡ apexOf begin s
+  apex-added s h = rw e h
+
+span-high : (begin : Begin) (R : ℕ) → R ≤ 256 → spanOf begin R ≤ 256
+span-high (IsAsked true p) R h = lit≤ tt
+span-high (IsAsked false p) R h = h
+span-high (Handed d) R h = h
+
+-- ---- from what the tests found to what is promised: the start and the apex, as they were computed and judged
+apex-is : (begin : Begin) (frame : ℕ) {s q : Vector} → s ≡ signs frame → q ≡ apexOf begin s → q ≡ apexOf begin (signs frame)
+apex-is begin frame hs hq = hq ∙ ap (apexOf begin) hs
 
 inside-is : (solid : Solid) (bytes : List ℕ) {a q : Vector} {b t : Bool} → q ≡ a → b ≡ inBox (box solid) q → b ≡ t → isInside (look solid bytes a) ≡ t
 inside-is solid bytes {q = q} e h g = rw (← e) (look-inside solid bytes q ∙ sym h ∙ g)
 
-module _ {quick : Bool} {solid : Solid} {bytes : List ℕ} (ok : PermittedSolid solid bytes) {p : Vector} {frame R : ℕ} {a : Bool} (ha : a ≡ inBox (box solid) p) where
-  pub placed-outside : {r : Refused} → a ≡ false → r ≡ refusalOf 4 p 0 0 → PlacesJudged quick solid bytes p frame R (FitRefused r)
-  placed-outside e f = record { gives = rw f (start-outside-box (probeOf (sceneOf quick solid p frame R) bytes) p (inside-is solid bytes refl ha e)); fits = tt }
+-- the start is in the box, so q = p + s fits
+pub sum-fits : {solid : Solid} {bytes : List ℕ} (begin : Begin) (frame : ℕ) {p s : Vector} {a : Bool}
+    → PermittedSolid solid bytes → p ≡ startOf begin → a ≡ inBox (box solid) p → a ≡ true → s ≡ signs frame → Bounded 1000000000 (startOf begin) × Bounded 1000000000 s
+sum-fits begin frame ok hp ha e hs =
+    (rw (← hp) (bounded-wider (inside-bounded ok (record { is = sym ha ∙ e })) (lit≤ tt)), bounded-is hs (bounded-wider (signs-bounded (signs-are frame)) (lit≤ tt)))
 
-  module _ {s q : Vector} {b : Bool} (hs : s ≡ signs frame) (hq : q ≡ p ⊕ s) (hb : b ≡ inBox (box solid) q) (e : a ≡ true) where
-    pub placed-apex-outside : {r : Refused} → b ≡ false → r ≡ refusalOf 4 q 0 0 → PlacesJudged quick solid bytes p frame R (FitRefused r)
+module _ {begin : Begin} {solid : Solid} {bytes : List ℕ} (ok : PermittedSolid solid bytes) {p : Vector} {frame R : ℕ} {a : Bool} (hp : p ≡ startOf begin) (ha : a ≡ inBox (box solid) p) where
+  pub placed-outside : {r : Refused} → a ≡ false → r ≡ refusalOf 4 p 0 0 → PlacesJudged begin solid bytes frame R (FitRefused r)
+  placed-outside e f = record { gives = rw (f, hp) (start-outside-box (probeOf (sceneOf begin solid frame R) bytes) (startOf begin) (inside-is solid bytes hp ha e)); fits = ap (λ (r : Refused). r .looks) f }
+
+  module _ {s q : Vector} {b : Bool} (hs : s ≡ signs frame) (hq : q ≡ apexOf begin s) (hb : b ≡ inBox (box solid) q) (e : a ≡ true) where
+    pub placed-apex-outside : {r : Refused} → b ≡ false → r ≡ refusalOf 4 q 0 0 → PlacesJudged begin solid bytes frame R (FitRefused r)
     placed-apex-outside g f =
-        let i = apex-is p frame hs hq in
-        record { gives = rw (f, i) (apex-outside-box (probeOf (sceneOf quick solid p frame R) bytes) p (inside-is solid bytes refl ha e) (inside-is solid bytes i hb g)); fits = tt }
+        let i = apex-is begin frame hs hq in
+        record { gives = rw (f, i) (apex-outside-box (probeOf (sceneOf begin solid frame R) bytes) (startOf begin) (inside-is solid bytes hp ha e) (inside-is solid bytes i hb g)); fits = ap (λ (r : Refused). r .looks) f }
 
-    pub placed-inside : {span : ℕ} → span ≡ spanOf quick R → b ≡ true → R ≤ 256 → PlacesJudged quick solid bytes p frame R (FitScene record { solid = solid; apex = q; signs = s; span = span; reach = R })
+    pub placed-inside : {span : ℕ} → span ≡ spanOf begin R → b ≡ true → R ≤ 256 → PlacesJudged begin solid bytes frame R (FitScene record { solid = solid; apex = q; signs = s; span = span; reach = R })
     placed-inside hl g h =
-        let i = apex-is p frame hs hq in
+        let i = apex-is begin frame hs hq in
         record {
-          gives = both-inside (probeOf (sceneOf quick solid p frame R) bytes) p (inside-is solid bytes refl ha e) (inside-is solid bytes i hb g);
+          gives = both-inside (probeOf (sceneOf begin solid frame R) bytes) (startOf begin) (inside-is solid bytes hp ha e) (inside-is solid bytes i hb g);
           fits = (
             λ j. record { solid = solid; apex = i j; signs = hs j; span = hl j; reach = R },
-            record { permitted = ok; placed = record { is = sym hb ∙ g }; signed = rw hs (signs-are frame); span-high = rw hl (span-high quick R h); reach-high = h },
+            record { permitted = ok; placed = record { is = sym hb ∙ g }; signed = rw hs (signs-are frame); span-high = rw hl (span-high begin R h); reach-high = h },
           );
         }
 
 pub ruleset placing-judged = (placed-outside, placed-apex-outside, placed-inside)
 
 -- ---- the inputs
-module _ {quick : Bool} {solid : Solid} {bytes : List ℕ} {p : Vector} {frame reach : ℤ} {a : Bool} (ha : a ≡ between (pos 1) reach (pos 256)) where
-  pub judged-reach : {r : Refused} → a ≡ false → r ≡ refusalOf 1 origin 0 0 → InputsJudged quick solid bytes p frame reach (FitRefused r)
-  judged-reach e f = record { gives = rw f (reach-refused (permitted solid bytes) (look solid bytes) p frame reach (sym ha ∙ e)); fits = tt }
+module _ {begin : Begin} {solid : Solid} {bytes : List ℕ} {frame reach : ℤ} {a : Bool} (ha : a ≡ between (pos 1) reach (pos 256)) where
+  pub judged-reach : {r : Refused} → a ≡ false → r ≡ refusalOf 1 origin 0 0 → InputsJudged begin solid bytes frame reach (FitRefused r)
+  judged-reach e f = record { gives = rw f (reach-refused (permitted solid bytes) (probeJudged begin solid bytes frame reach) (startOf begin) frame reach (sym ha ∙ e)); fits = ap (λ (r : Refused). r .looks) f }
 
   module _ {b : Bool} (hb : b ≡ between (pos 0) frame (pos 7)) where
-    pub judged-frame : {r : Refused} → a ≡ true → b ≡ false → r ≡ refusalOf 2 origin 0 0 → InputsJudged quick solid bytes p frame reach (FitRefused r)
-    judged-frame e g f = record { gives = rw f (frame-refused (permitted solid bytes) (look solid bytes) p frame reach (sym ha ∙ e) (sym hb ∙ g)); fits = tt }
+    pub judged-frame : {r : Refused} → a ≡ true → b ≡ false → r ≡ refusalOf 2 origin 0 0 → InputsJudged begin solid bytes frame reach (FitRefused r)
+    judged-frame e g f = record { gives = rw f (frame-refused (permitted solid bytes) (probeJudged begin solid bytes frame reach) (startOf begin) frame reach (sym ha ∙ e) (sym hb ∙ g)); fits = ap (λ (r : Refused). r .looks) f }
 
     module _ {d : Bool} (hd : d ≡ permitted solid bytes) where
-      pub judged-solid : {r : Refused} → a ≡ true → b ≡ true → d ≡ false → r ≡ refusalOf 3 origin 0 0 → InputsJudged quick solid bytes p frame reach (FitRefused r)
-      judged-solid e g k f = record { gives = rw f (solid-refused (permitted solid bytes) (look solid bytes) p frame reach (sym ha ∙ e) (sym hb ∙ g) (sym hd ∙ k)); fits = tt }
+      pub judged-solid : {r : Refused} → a ≡ true → b ≡ true → d ≡ false → r ≡ refusalOf 3 origin 0 0 → InputsJudged begin solid bytes frame reach (FitRefused r)
+      judged-solid e g k f = record { gives = rw f (solid-refused (permitted solid bytes) (probeJudged begin solid bytes frame reach) (startOf begin) frame reach (sym ha ∙ e) (sym hb ∙ g) (sym hd ∙ k)); fits = ap (λ (r : Refused). r .looks) f }
 
-      pub judged-placed : {r : Fit} → a ≡ true → b ≡ true → d ≡ true → PlacesJudged quick solid bytes p (natAbs frame) (natAbs reach) r → InputsJudged quick solid bytes p frame reach r
+      pub judged-placed : {r : Fit} → a ≡ true → b ≡ true → d ≡ true → PlacesJudged begin solid bytes (natAbs frame) (natAbs reach) r → InputsJudged begin solid bytes frame reach r
       unfolding placing
-      judged-placed e g k h = record { gives = solid-permitted (permitted solid bytes) (look solid bytes) p frame reach (sym ha ∙ e) (sym hb ∙ g) (sym hd ∙ k) (h .gives); fits = h .fits }
+      judged-placed e g k h = record { gives = solid-permitted (permitted solid bytes) (probeJudged begin solid bytes frame reach) (startOf begin) frame reach (sym ha ∙ e) (sym hb ∙ g) (sym hd ∙ k) (h .gives); fits = h .fits }

@@ -8,12 +8,15 @@ use Rattle.rules.specs.declared.Vector.{Vector}
 use Rattle.rules.specs.declared.Solid.{Solid}
 use Rattle.rules.specs.Vectors.{_⊕_}
 use Rattle.rules.specs.Solids.{permitted, look}
-use Rattle.rules.specs.Walk.{Stop, signs}
-use Rattle.rules.specs.Pick.{placing, judging}
+use Rattle.rules.specs.Asked.{Asked as Question}
+use Rattle.rules.specs.Walk.{Stop, signs, Probe}
+use Rattle.rules.specs.Pick.{probeFrom, placing, judging}
 use Rattle.laws.specs.Tally.{Tally, yes, Gives}
 use Rattle.falls.specs.declared.Scene.{Scene}
 use Rattle.falls.specs.Scene.{probeOf, Ready}
 use Rattle.walk.specs.Walk.{refusalTally}
+use Rattle.inputs.specs.declared.Begin.{Begin}
+use Rattle.inputs.specs.declared.Begin.the-variants.{Asked, Handed}
 use Rattle.inputs.specs.declared.Fit.{Fit}
 use Rattle.inputs.specs.declared.Fit.the-variants.{Scene as FitScene, Refused as FitRefused}
 
@@ -21,24 +24,42 @@ abbrev pub fitTally : Fit → Tally Stop (Unit {0})
 fitTally (FitScene v) = yes tt 0
 fitTally (FitRefused r) = refusalTally r
 
+-- the start p
+abbrev pub startOf : Begin → Vector
+startOf (Asked quick p) = p
+startOf (Handed d) = d .start
+
+-- the apex, with the signs s: q = p + s, or the one that was handed
+abbrev pub apexOf : Begin → Vector → Vector
+apexOf (Asked quick p) s = p ⊕ s
+apexOf (Handed d) s = d .apex
+
 -- of a quick touch a direction falls only if power 1 is filled
-abbrev pub spanOf : Bool → ℕ → ℕ
-spanOf true R = 1
-spanOf false R = R
+abbrev pub spanOf : Begin → ℕ → ℕ
+spanOf (Asked true p) R = 1
+spanOf (Asked false p) R = R
+spanOf (Handed d) R = R
 
 -- the scene of these inputs
-abbrev pub sceneOf : Bool → Solid → Vector → ℕ → ℕ → Scene
-sceneOf quick solid p frame R = record { solid = solid; apex = p ⊕ signs frame; signs = signs frame; span = spanOf quick R; reach = R }
+abbrev pub sceneOf : Begin → Solid → ℕ → ℕ → Scene
+sceneOf begin solid frame R = record { solid = solid; apex = apexOf begin (signs frame); signs = signs frame; span = spanOf begin R; reach = R }
 
--- where none is refused it is that scene, and every question may be asked in it
-abbrev pub FitsTo : Bool → Solid → List ℕ → Vector → ℕ → ℕ → Fit → Type 0
-FitsTo quick solid bytes p frame R (FitScene v) = (v ≡ sceneOf quick solid p frame R) × Ready v bytes
-FitsTo quick solid bytes p frame R (FitRefused r) = Unit {0}
+-- where none is refused it is that scene, and every question may be asked in it; no refusal has looks
+abbrev pub FitsTo : Begin → Solid → List ℕ → ℕ → ℕ → Fit → Type 0
+FitsTo begin solid bytes frame R (FitScene v) = (v ≡ sceneOf begin solid frame R) × Ready v bytes
+FitsTo begin solid bytes frame R (FitRefused r) = r .looks ≡ 0
 
-pub record PlacesJudged (quick : Bool) (solid : Solid) (bytes : List ℕ) (p : Vector) (frame R : ℕ) (r : Fit) : Type 0 where
-  pub gives : Gives 0 (placing (probeOf (sceneOf quick solid p frame R) bytes) p) (fitTally r)
-  pub fits : FitsTo quick solid bytes p frame R r
+pub record PlacesJudged (begin : Begin) (solid : Solid) (bytes : List ℕ) (frame R : ℕ) (r : Fit) : Type 0 where
+  pub gives : Gives 0 (placing (probeOf (sceneOf begin solid frame R) bytes) (startOf begin)) (fitTally r)
+  pub fits : FitsTo begin solid bytes frame R r
 
-pub record InputsJudged (quick : Bool) (solid : Solid) (bytes : List ℕ) (p : Vector) (frame reach : ℤ) (r : Fit) : Type 0 where
-  pub gives : Gives 0 (judging (permitted solid bytes) (look solid bytes) p frame reach) (fitTally r)
-  pub fits : FitsTo quick solid bytes p (natAbs frame) (natAbs reach) r
+-- what is judged, and its judgement
+abbrev pub probeJudged : Begin → Solid → List ℕ → ℤ → ℤ → Probe
+probeJudged begin solid bytes frame reach = probeFrom (look solid bytes) (apexOf begin (signs (natAbs frame))) frame reach
+
+abbrev pub judgingOf : Begin → Solid → List ℕ → ℤ → ℤ → Question Stop (Unit {0})
+judgingOf begin solid bytes frame reach = judging (permitted solid bytes) (probeJudged begin solid bytes frame reach) (startOf begin) frame reach
+
+pub record InputsJudged (begin : Begin) (solid : Solid) (bytes : List ℕ) (frame reach : ℤ) (r : Fit) : Type 0 where
+  pub gives : Gives 0 (judgingOf begin solid bytes frame reach) (fitTally r)
+  pub fits : FitsTo begin solid bytes (natAbs frame) (natAbs reach) r

@@ -2,12 +2,20 @@
 ghost use mathlib.Core.Path.{_≡_};
 ghost use Prim.Native.Nat.{_≤_};
 ghost use Rattle.rules.specs.Walk.{sign, signs};
+ghost use Rattle.laws.specs.Bounds.{Bounded};
 ghost use Rattle.solid.specs.Asks.{PermittedSolid};
-ghost use Rattle.inputs.specs.Inputs.{spanOf, PlacesJudged, InputsJudged};
+ghost use Rattle.inputs.specs.Inputs.{startOf, apexOf, spanOf, PlacesJudged, InputsJudged};
 use falls::Scene;
+use rules::ReadyStart;
 use rules::Refused;
 use rules::Solid;
 use rules::Vector;
+
+// From where the rounds begin: a start p that is asked, quickly or not; or a ready start, which is asked no more.
+pub enum Begin {
+    Asked(bool, Vector),
+    Handed(ReadyStart),
+}
 
 // The scene to walk in, or a refusal 1 to 4.
 pub enum Fit {
@@ -32,24 +40,50 @@ fn signs_of(frame: u32) -> Vector
     Vector { x: x, y: y, z: z }
 }
 
-// ---- refusals
+// ---- where the rounds begin
 
-// Of a quick touch a direction falls only if power 1 is filled.
-fn span_of(quick: bool, reach: u32) -> u32
-    ensures { λ r. ⌜ r ≡ spanOf quick reach ⌝ }
+fn start_of(begin: Begin) -> Vector
+    ensures { λ r. ⌜ r ≡ startOf begin ⌝ }
 {
-    if quick { 1 } else { reach }
+    match begin {
+        Begin::Asked(_, p) => p,
+        Begin::Handed(d) => d.start,
+    }
 }
 
-// Refusal 4: p is judged before q is formed.
-fn judge_places(quick: bool, solid: Solid, bytes: &[u8], p: Vector, frame: u32, reach: u32) -> Fit
-    requires { ⌜ PermittedSolid solid (now bytes) × (reach ≤ 256) ⌝ }
-    ensures { λ r. ⌜ PlacesJudged quick solid (now (bytes .entry)) p frame reach r ⌝ }
+// q = p + s, or the apex that was handed.
+fn apex_of(begin: Begin, s: Vector) -> Vector
+    requires { ⌜ Bounded 1000000000 (startOf begin) × Bounded 1000000000 s ⌝ }
+    ensures { λ r. ⌜ r ≡ apexOf begin s ⌝ }
 {
+    match begin {
+        Begin::Asked(_, p) => space::add(p, s),
+        Begin::Handed(d) => d.apex,
+    }
+}
+
+// Of a quick touch a direction falls only if power 1 is filled.
+fn span_of(begin: Begin, reach: u32) -> u32
+    ensures { λ r. ⌜ r ≡ spanOf begin reach ⌝ }
+{
+    match begin {
+        Begin::Asked(quick, _) => { if quick { 1 } else { reach } }
+        Begin::Handed(_) => reach,
+    }
+}
+
+// ---- refusals
+
+// Refusal 4: the start is judged before the apex is formed.
+fn judge_places(begin: Begin, solid: Solid, bytes: &[u8], frame: u32, reach: u32) -> Fit
+    requires { ⌜ PermittedSolid solid (now bytes) × (reach ≤ 256) ⌝ }
+    ensures { λ r. ⌜ PlacesJudged begin solid (now (bytes .entry)) frame reach r ⌝ }
+{
+    let p = start_of(begin);
     if solid::is_inside(solid, p) {
         let s = signs_of(frame);
-        let q = space::add(p, s);
-        let span = span_of(quick, reach);
+        let q = apex_of(begin, s);
+        let span = span_of(begin, reach);
         if solid::is_inside(solid, q) {
             Fit::Scene(Scene {
                 solid: solid,
@@ -66,14 +100,14 @@ fn judge_places(quick: bool, solid: Solid, bytes: &[u8], p: Vector, frame: u32, 
     }
 }
 
-pub fn judge(quick: bool, solid: Solid, bytes: &[u8], p: Vector, frame: i32, reach: i32) -> Fit
-    ensures { λ r. ⌜ InputsJudged quick solid (now (bytes .entry)) p frame reach r ⌝ }
+pub fn judge(begin: Begin, solid: Solid, bytes: &[u8], frame: i32, reach: i32) -> Fit
+    ensures { λ r. ⌜ InputsJudged begin solid (now (bytes .entry)) frame reach r ⌝ }
 {
     let origin = Vector { x: 0, y: 0, z: 0 };
     if range::is_between(1, reach, 256) {
         if range::is_between(0, frame, 7) {
             if solid::is_permitted(solid, bytes) {
-                judge_places(quick, solid, bytes, p, frame as u32, reach as u32)
+                judge_places(begin, solid, bytes, frame as u32, reach as u32)
             } else {
                 Fit::Refused(walk::refusal(3, origin, 0, 0))
             }

@@ -1,19 +1,27 @@
--- `pick::touch_wedge` meets its promise: the walk of the solid that it is, marked.
+-- `pick::touch_wedge` meets its promise: the call of a touch, marked, of the solid that it is.
 use mathlib.Core.Path.{ap, _∙_}
 use borrow.Author.Needs.{needs}
 use Rattle.rules.specs.Touch.{marked, touchOf}
-use Rattle.pick.proofs.Answers.{walked-read}
+use Rattle.pick.proofs.Answers.{made-read, ends, ends-in}
 use Rattle.pick.proofs.touch_wedge.Statement.{statement}
 use Rattle.pick.proofs.touch_wedge.Tie as tie
+
+in-its-kind : tie.Need-as-pick-requires
+in-its-kind c κs =
+    let s = c .before .before in
+    ends (made-read (s .fits .frame) (s .fits .reach) (c .make-call .ensures) .is)
 
 as-its-solid : tie.Need-returns
 unfolding touchOf
 as-its-solid c =
-    let s = c .before .before .before in
-    record { is = c .mark .ensures ∙ ap marked (walked-read (s .fits .frame) (s .fits .reach) (c .before .walk-solid .ensures) .is) }
+    let called = c .before .before in
+    let s = called .before .before in
+    record { is = c .mark .ensures ∙ ap marked (ends-in (made-read (s .fits .frame) (s .fits .reach) (called .make-call .ensures) .is) (c .before .as-pick .ensures)) }
 
 pub touch-wedge-spec : {M : Type 1} → statement M
 touch-wedge-spec =
     tie.close
     (tie.spec
-    (λ c. search needs) (λ c κs. search needs) (λ c κs. search needs) as-its-solid)
+    (λ c. search needs) (λ c κs. search needs)
+    in-its-kind
+    (λ c κs. search needs) as-its-solid)

@@ -1,0 +1,14 @@
+-- `pick::make_call` meets its contract: by how far it came, through the inputs, the start, or to its end.
+use borrow.Author.Needs.{needs}
+use Rattle.pick.proofs.Answers.{granted, made}
+use Rattle.pick.proofs.make_call.Statement.{statement}
+use Rattle.pick.proofs.make_call.Tie as tie
+
+pub make-call-spec : {M : Type 1} → statement M
+make-call-spec =
+    tie.close
+    (tie.spec
+    (λ c κs. search needs) (λ c κs. search needs) (λ c. search needs) (λ c. search needs) (λ c κs. search granted)
+    (λ c. search needs) (λ c. search needs)
+    (λ c κs. search granted)
+    (λ c. search made) (λ c. search made) (λ c. search made))

@@ -1,0 +1,2 @@
+-- The powers, counted one by one.
+pub mod Counting

@@ -1,0 +1,2 @@
+-- What a ready start promises.
+pub mod Facts
