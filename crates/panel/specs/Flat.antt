@@ -1,8 +1,13 @@
 -- The panel's C interface: each answer of the core as plain numbers. These are definitions: nothing here is proved.
 use lib.IntN.{pos, natAbs}
 use lib.Ieee.{Float, fin}
-use mathlib.Core.Bool.{false}
-use Prim.Native.Nat.{ℕ}
+use lib.Dec.{eqb}
+use mathlib.Core.Bool.{Bool, true, false}
+use Prim.Native.Nat.{ℕ, _+_, _*_, _/_, _%_}
+use Rattle.rules.specs.declared.Levels.{Levels}
+use Rattle.rules.specs.declared.ReadyStart.{ReadyStart}
+use Rattle.rules.specs.declared.Check.{Check}
+use Rattle.rules.specs.declared.Check.the-variants.{Ready, Refused as CheckRefused}
 use Rattle.rules.specs.declared.Pick.{Pick}
 use Rattle.rules.specs.declared.Pick.the-variants.{Accepted, Refused}
 use Rattle.rules.specs.declared.Touch.{Touch}
@@ -14,8 +19,11 @@ use Rattle.rules.specs.declared.Reading.the-variants.{Read, Unread}
 use Rattle.rules.specs.declared.Writing.{Writing}
 use Rattle.rules.specs.declared.Writing.the-variants.{Written, Unwritten}
 use Rattle.rules.specs.Vectors.{origin}
+use Rattle.rules.specs.Walk.{levels}
 use Rattle.panel.specs.declared.FlatPick.{FlatPick}
 use Rattle.panel.specs.declared.FlatTouch.{FlatTouch}
+use Rattle.panel.specs.declared.FlatReady.{FlatReady}
+use Rattle.panel.specs.declared.FlatCheck.{FlatCheck}
 use Rattle.panel.specs.declared.FlatReading.{FlatReading}
 use Rattle.panel.specs.declared.FlatWriting.{FlatWriting}
 use Rattle.panel.specs.declared.FlatDisplay.{FlatDisplay}
@@ -63,6 +71,32 @@ withGuess guess r = record {
 abbrev pub flatTouch : Touch → FlatTouch
 flatTouch (Guess a) = withGuess 1 (flatPick (Accepted a))
 flatTouch (TouchRefused r) = withGuess 0 (flatPick (Refused r))
+
+-- ---- a ready start. Bit 0, 1, 2 of level: axis 0, 1, 2 is level
+abbrev pub bit : Bool → ℕ
+bit true = 1
+bit false = 0
+
+abbrev pub maskOf : Levels → ℕ
+maskOf v = bit (v .x) + 2 * bit (v .y) + 4 * bit (v .z)
+
+abbrev pub flatReady : ReadyStart → FlatReady
+flatReady d = record { start = d .start; apex = d .apex; level = maskOf (d .level); looks = d .looks }
+
+-- as a host hands it back: higher bits are not looked at
+abbrev pub levelsOf : ℕ → Levels
+levelsOf mask = levels (eqb (mask % 2) 1) (eqb (mask / 2 % 2) 1) (eqb (mask / 4 % 2) 1)
+
+abbrev pub readyOf : FlatReady → ReadyStart
+readyOf r = record { start = r .start; apex = r .apex; level = levelsOf (r .level); looks = r .looks }
+
+-- number 0: ready, place 0 0 0, looks the ready start's. Refused: the ready start all zero
+abbrev pub noReady : FlatReady
+noReady = record { start = origin; apex = origin; level = 0; looks = 0 }
+
+abbrev pub flatCheck : Check → FlatCheck
+flatCheck (Ready d) = record { number = 0; place = origin; looks = d .looks; ready = flatReady d }
+flatCheck (CheckRefused r) = record { number = r .number; place = r .place; looks = r .looks; ready = noReady }
 
 -- +0
 abbrev pub plusZero : Float

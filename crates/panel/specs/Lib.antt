@@ -1,9 +1,5 @@
--- `Flat`, `Promises`, `Demands` and `Touches` are definitions; `Settled` shows that each promise leaves no choice, `Proved` and `TouchProved` that demand 3 and what is wanted of touches
--- reach the host.
+-- `Flat` and `Promises` are definitions; `Settled` shows that each promise leaves no choice, `Handed` that a ready start comes back from a host as it was.
 pub mod Flat
 pub mod Promises
-pub mod Demands
 pub mod Settled
-pub mod Proved
-pub mod Touches
-pub mod TouchProved
+pub mod Handed

@@ -1,4 +1,4 @@
--- The promises of the panel's seven functions: each answer is the core's definition, flattened; a lent buffer holds what the core's promise says.
+-- The promises of the panel's eleven functions: each answer is the core's definition, flattened; a lent buffer holds what the core's promise says.
 -- These are definitions: nothing here is proved.
 use mathlib.Core.Path.{_≡_}
 use mathlib.Core.List.{List, []}
@@ -11,14 +11,17 @@ use Rattle.rules.specs.declared.Stack.{Stack}
 use Rattle.rules.specs.declared.Solid.the-variants.{Wedge as IsWedge, Stack as IsStack}
 use Rattle.rules.specs.Pick.{pickOf}
 use Rattle.rules.specs.Touch.{touchOf}
+use Rattle.rules.specs.TwoCalls.{checkOf, walkOf}
 use Rattle.rules.specs.P4.{reading, writing, readAnswer, writeAnswer, stored}
 use Rattle.rules.specs.Display.{display}
 use Rattle.panel.specs.declared.FlatPick.{FlatPick}
 use Rattle.panel.specs.declared.FlatTouch.{FlatTouch}
+use Rattle.panel.specs.declared.FlatReady.{FlatReady}
+use Rattle.panel.specs.declared.FlatCheck.{FlatCheck}
 use Rattle.panel.specs.declared.FlatReading.{FlatReading}
 use Rattle.panel.specs.declared.FlatWriting.{FlatWriting}
 use Rattle.panel.specs.declared.FlatDisplay.{FlatDisplay}
-use Rattle.panel.specs.Flat.{flatPick, flatTouch, flatReading, flatWriting, flatDisplay}
+use Rattle.panel.specs.Flat.{flatPick, flatTouch, readyOf, flatCheck, flatReading, flatWriting, flatDisplay}
 
 abbrev pub wedge : ℤ → ℤ → ℤ → ℤ → Wedge
 wedge a b c h = record { a = a; b = b; c = c; h = h }
@@ -37,6 +40,18 @@ pub record TouchedWedge (w : Wedge) (p : Vector) (frame reach : ℤ) (r : FlatTo
 
 pub record TouchedStack (k : Stack) (bytes : List ℕ) (p : Vector) (frame reach : ℤ) (r : FlatTouch) : Type 0 where
   pub is : r ≡ flatTouch (touchOf (IsStack k) bytes p frame reach)
+
+pub record CheckedWedge (w : Wedge) (p : Vector) (frame reach : ℤ) (r : FlatCheck) : Type 0 where
+  pub is : r ≡ flatCheck (checkOf (IsWedge w) [] p frame reach)
+
+pub record CheckedStack (k : Stack) (bytes : List ℕ) (p : Vector) (frame reach : ℤ) (r : FlatCheck) : Type 0 where
+  pub is : r ≡ flatCheck (checkOf (IsStack k) bytes p frame reach)
+
+pub record WalkedWedge (w : Wedge) (ready : FlatReady) (frame reach : ℤ) (r : FlatPick) : Type 0 where
+  pub is : r ≡ flatPick (walkOf (IsWedge w) [] (readyOf ready) frame reach)
+
+pub record WalkedStack (k : Stack) (bytes : List ℕ) (ready : FlatReady) (frame reach : ℤ) (r : FlatPick) : Type 0 where
+  pub is : r ≡ flatPick (walkOf (IsStack k) bytes (readyOf ready) frame reach)
 
 pub record ReadP4 (src before after : List ℕ) (r : FlatReading) : Type 0 where
   pub answers : r ≡ flatReading (readAnswer (reading src (length before)))

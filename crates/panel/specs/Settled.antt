@@ -8,10 +8,12 @@ use Rattle.rules.specs.declared.Wedge.{Wedge}
 use Rattle.rules.specs.declared.Stack.{Stack}
 use Rattle.panel.specs.declared.FlatPick.{FlatPick}
 use Rattle.panel.specs.declared.FlatTouch.{FlatTouch}
+use Rattle.panel.specs.declared.FlatReady.{FlatReady}
+use Rattle.panel.specs.declared.FlatCheck.{FlatCheck}
 use Rattle.panel.specs.declared.FlatReading.{FlatReading}
 use Rattle.panel.specs.declared.FlatWriting.{FlatWriting}
 use Rattle.panel.specs.declared.FlatDisplay.{FlatDisplay}
-use Rattle.panel.specs.Promises.{PickedWedge, PickedStack, TouchedWedge, TouchedStack, ReadP4, WroteP4, Displayed}
+use Rattle.panel.specs.Promises.{PickedWedge, PickedStack, TouchedWedge, TouchedStack, CheckedWedge, CheckedStack, WalkedWedge, WalkedStack, ReadP4, WroteP4, Displayed}
 
 pub picked-wedge-settled : {w : Wedge} {p : Vector} {frame reach : ℤ} {a b : FlatPick} → PickedWedge w p frame reach a → PickedWedge w p frame reach b → a ≡ b
 picked-wedge-settled h k = h .is ∙ sym (k .is)
@@ -24,6 +26,18 @@ touched-wedge-settled h k = h .is ∙ sym (k .is)
 
 pub touched-stack-settled : {s : Stack} {bytes : List ℕ} {p : Vector} {frame reach : ℤ} {a b : FlatTouch} → TouchedStack s bytes p frame reach a → TouchedStack s bytes p frame reach b → a ≡ b
 touched-stack-settled h k = h .is ∙ sym (k .is)
+
+pub checked-wedge-settled : {w : Wedge} {p : Vector} {frame reach : ℤ} {a b : FlatCheck} → CheckedWedge w p frame reach a → CheckedWedge w p frame reach b → a ≡ b
+checked-wedge-settled h k = h .is ∙ sym (k .is)
+
+pub checked-stack-settled : {s : Stack} {bytes : List ℕ} {p : Vector} {frame reach : ℤ} {a b : FlatCheck} → CheckedStack s bytes p frame reach a → CheckedStack s bytes p frame reach b → a ≡ b
+checked-stack-settled h k = h .is ∙ sym (k .is)
+
+pub walked-wedge-settled : {w : Wedge} {d : FlatReady} {frame reach : ℤ} {a b : FlatPick} → WalkedWedge w d frame reach a → WalkedWedge w d frame reach b → a ≡ b
+walked-wedge-settled h k = h .is ∙ sym (k .is)
+
+pub walked-stack-settled : {s : Stack} {bytes : List ℕ} {d : FlatReady} {frame reach : ℤ} {a b : FlatPick} → WalkedStack s bytes d frame reach a → WalkedStack s bytes d frame reach b → a ≡ b
+walked-stack-settled h k = h .is ∙ sym (k .is)
 
 pub read-p4-settled : {src before a b : List ℕ} {q r : FlatReading} → ReadP4 src before a q → ReadP4 src before b r → (q ≡ r) × (a ≡ b)
 read-p4-settled h k = (h .answers ∙ sym (k .answers), h .leaves ∙ sym (k .leaves))

@@ -1,11 +1,14 @@
 // The panel's C interface (include/ulgenzhir.h): thin over the core, each answer flattened by a definition of `specs/Flat.antt`.
 ghost use mathlib.Core.Path.{_≡_};
-ghost use Rattle.panel.specs.Promises.{wedge, stack, PickedWedge, PickedStack, TouchedWedge, TouchedStack, ReadP4, WroteP4, Displayed};
+ghost use Rattle.panel.specs.Promises.{wedge, stack, PickedWedge, PickedStack, TouchedWedge, TouchedStack, CheckedWedge, CheckedStack, WalkedWedge, WalkedStack, ReadP4, WroteP4, Displayed};
 ghost use Rattle.rules.specs.Vectors.{vector};
-ghost use Rattle.panel.specs.Flat.{flatPick, withGuess, flatTouch, flatDisplay, flatReading, flatWriting};
+ghost use Rattle.panel.specs.Flat.{flatPick, withGuess, flatTouch, maskOf, levelsOf, flatReady, readyOf, flatCheck, flatDisplay, flatReading, flatWriting};
+use rules::Check;
 use rules::Display;
+use rules::Levels;
 use rules::Pick;
 use rules::Reading;
+use rules::ReadyStart;
 use rules::Stack;
 use rules::Touch;
 use rules::Vector;
@@ -39,6 +42,22 @@ pub struct FlatTouch {
     pub m1: Vector,
     pub m2: Vector,
     pub apex: Vector,
+}
+
+#[repr(C)]
+pub struct FlatReady {
+    pub start: Vector,
+    pub apex: Vector,
+    pub level: u32,
+    pub looks: u32,
+}
+
+#[repr(C)]
+pub struct FlatCheck {
+    pub number: u32,
+    pub place: Vector,
+    pub looks: u32,
+    pub ready: FlatReady,
 }
 
 #[repr(C)]
@@ -139,6 +158,62 @@ fn flatten_touch(answer: Touch) -> FlatTouch
     }
 }
 
+// Bit 0, 1, 2: axis 0, 1, 2 is level.
+fn mask_of(level: Levels) -> u32
+    ensures { λ r. ⌜ r ≡ maskOf level ⌝ }
+{
+    let x = level.x as u32;
+    let y = level.y as u32;
+    let z = level.z as u32;
+    x + 2 * y + 4 * z
+}
+
+fn flatten_ready(d: ReadyStart) -> FlatReady
+    ensures { λ r. ⌜ r ≡ flatReady d ⌝ }
+{
+    let p = d.start;
+    let q = d.apex;
+    let mask = mask_of(d.level);
+    FlatReady {
+        start: p,
+        apex: q,
+        level: mask,
+        looks: d.looks,
+    }
+}
+
+fn flatten_check(answer: Check) -> FlatCheck
+    ensures { λ r. ⌜ r ≡ flatCheck answer ⌝ }
+{
+    let none = Vector { x: 0, y: 0, z: 0 };
+    match answer {
+        Check::Ready(d) => {
+            let ready = flatten_ready(d);
+            FlatCheck {
+                number: 0,
+                place: none,
+                looks: d.looks,
+                ready: ready,
+            }
+        }
+        Check::Refused(r) => {
+            let place = r.place;
+            let ready = FlatReady {
+                start: none,
+                apex: none,
+                level: 0,
+                looks: 0,
+            };
+            FlatCheck {
+                number: r.number,
+                place: place,
+                looks: r.looks,
+                ready: ready,
+            }
+        }
+    }
+}
+
 fn flatten_reading(answer: Reading) -> FlatReading
     ensures { λ r. ⌜ r ≡ flatReading answer ⌝ }
 {
@@ -223,6 +298,30 @@ fn point(x: i32, y: i32, z: i32) -> Vector
     Vector { x: x, y: y, z: z }
 }
 
+// Higher bits are not looked at.
+fn levels_of(mask: u32) -> Levels
+    ensures { λ r. ⌜ r ≡ levelsOf mask ⌝ }
+{
+    let x = mask % 2 == 1;
+    let y = mask / 2 % 2 == 1;
+    let z = mask / 4 % 2 == 1;
+    Levels { x: x, y: y, z: z }
+}
+
+fn ready_of(ready: FlatReady) -> ReadyStart
+    ensures { λ r. ⌜ r ≡ readyOf ready ⌝ }
+{
+    let p = ready.start;
+    let q = ready.apex;
+    let level = levels_of(ready.level);
+    ReadyStart {
+        start: p,
+        apex: q,
+        level: level,
+        looks: ready.looks,
+    }
+}
+
 // ---- the interface
 
 #[no_mangle]
@@ -299,6 +398,78 @@ pub extern "C" fn ulgenzhir_touch_stack(
     let k = stack_of(width, height, depth);
     let p = point(px, py, pz);
     flatten_touch(pick::touch_stack(k, bytes, p, frame, reach))
+}
+
+#[no_mangle]
+pub extern "C" fn ulgenzhir_check_wedge(
+    a: i32,
+    b: i32,
+    c: i32,
+    h: i32,
+    px: i32,
+    py: i32,
+    pz: i32,
+    frame: i32,
+    reach: i32,
+) -> FlatCheck
+    ensures { λ r. ⌜ CheckedWedge (wedge a b c h) (vector px py pz) frame reach r ⌝ }
+{
+    let w = wedge_of(a, b, c, h);
+    let p = point(px, py, pz);
+    flatten_check(pick::check_wedge(w, p, frame, reach))
+}
+
+#[no_mangle]
+pub extern "C" fn ulgenzhir_check_stack(
+    width: i32,
+    height: i32,
+    depth: i32,
+    bytes: &[u8],
+    px: i32,
+    py: i32,
+    pz: i32,
+    frame: i32,
+    reach: i32,
+) -> FlatCheck
+    ensures { λ r. ⌜ CheckedStack (stack width height depth) (now (bytes .entry)) (vector px py pz) frame reach r ⌝ }
+{
+    let k = stack_of(width, height, depth);
+    let p = point(px, py, pz);
+    flatten_check(pick::check_stack(k, bytes, p, frame, reach))
+}
+
+#[no_mangle]
+pub extern "C" fn ulgenzhir_walk_wedge(
+    a: i32,
+    b: i32,
+    c: i32,
+    h: i32,
+    ready: FlatReady,
+    frame: i32,
+    reach: i32,
+) -> FlatPick
+    ensures { λ r. ⌜ WalkedWedge (wedge a b c h) ready frame reach r ⌝ }
+{
+    let w = wedge_of(a, b, c, h);
+    let d = ready_of(ready);
+    flatten_pick(pick::walk_wedge(w, d, frame, reach))
+}
+
+#[no_mangle]
+pub extern "C" fn ulgenzhir_walk_stack(
+    width: i32,
+    height: i32,
+    depth: i32,
+    bytes: &[u8],
+    ready: FlatReady,
+    frame: i32,
+    reach: i32,
+) -> FlatPick
+    ensures { λ r. ⌜ WalkedStack (stack width height depth) (now (bytes .entry)) ready frame reach r ⌝ }
+{
+    let k = stack_of(width, height, depth);
+    let d = ready_of(ready);
+    flatten_pick(pick::walk_stack(k, bytes, d, frame, reach))
 }
 
 #[no_mangle]

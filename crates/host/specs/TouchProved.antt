@@ -12,12 +12,12 @@ use Rattle.slope.specs.Demands.{Inputs, pickAt, OnSlope, ofWedge}
 use Rattle.slope.specs.Proved.{demand-3}
 use Rattle.slope.specs.Touches.{touchAt, OnLevel, TouchedAs}
 use Rattle.slope.specs.TouchProved.{quick-touch}
 use Rattle.panel.specs.declared.FlatPick.{FlatPick}
 use Rattle.panel.specs.declared.FlatTouch.{FlatTouch}
 use Rattle.panel.specs.Flat.{flatPick, flatTouch}
-use Rattle.panel.specs.Demands.{FlatSame, Called}
-use Rattle.panel.specs.Proved.{called, accepted, same-flat}
-use Rattle.panel.specs.Touches.{withoutGuess, FlatTouched, Marked, TouchCalled, wedgeTouched, stackTouched, HostQuickTouch}
+use Rattle.host.specs.Demands.{FlatSame, Called}
+use Rattle.host.specs.Proved.{called, accepted, same-flat}
+use Rattle.host.specs.Touches.{withoutGuess, FlatTouched, Marked, TouchCalled, wedgeTouched, stackTouched, HostQuickTouch}
 
 touch-called : {i : Inputs} {r : FlatTouch} → TouchCalled i r → r ≡ flatTouch (touchAt i)
 touch-called (wedgeTouched wedge p frame reach e h) = h .is ∙ ap (λ (i : Inputs). flatTouch (touchAt i)) (sym e)

@@ -11,10 +11,10 @@ use Rattle.rules.specs.declared.Stack.{Stack}
 use Rattle.rules.specs.Vectors.{origin}
 use Rattle.slope.specs.Demands.{Inputs, OnSlope, ofWedge, ofStack}
 use Rattle.slope.specs.Touches.{OnLevel, OnWedgeLevel, GuessWith, TouchOutside, TouchLevel}
 use Rattle.panel.specs.declared.FlatPick.{FlatPick}
 use Rattle.panel.specs.declared.FlatTouch.{FlatTouch}
 use Rattle.panel.specs.Promises.{TouchedWedge, TouchedStack}
-use Rattle.panel.specs.Demands.{acceptedOf, refusedOf, FlatSame, Called}
+use Rattle.host.specs.Demands.{acceptedOf, refusedOf, FlatSame, Called}
 
 -- a flat touch without its mark
 abbrev pub withoutGuess : FlatTouch → FlatPick

@@ -1,0 +1,19 @@
+-- What `check_stack` promises of its answer, flattened; the parameters are read back from their bits.
+use mathlib.Core.Path.{ap, _∙_}
+use borrow.Author.Needs.{needs}
+use mir.Facts.{toZ-ofZ}
+use Rattle.panel.specs.Flat.{flatCheck}
+use Rattle.panel.proofs.ulgenzhir_check_stack.Statement.{statement}
+use Rattle.panel.proofs.ulgenzhir_check_stack.Tie as tie
+
+returns : tie.Need-returns
+returns c =
+    let at = c .before .before in
+    let own = at .before .before .before .fits in
+    record {
+      is = c .flatten-check .ensures
+          ∙ ap flatCheck (rw (at .point .ensures, at .before .stack-of .ensures, toZ-ofZ (own .width), toZ-ofZ (own .height), toZ-ofZ (own .depth), toZ-ofZ (own .px), toZ-ofZ (own .py), toZ-ofZ (own .pz), toZ-ofZ (own .frame), toZ-ofZ (own .reach)) at (c .before .check-stack .ensures .is));
+    }
+
+pub ulgenzhir-check-stack-spec : {M : Type 1} → statement M
+ulgenzhir-check-stack-spec = tie.close (tie.spec (λ c κs. search needs) (λ c κs. search needs) (λ c κs. search needs) (λ c κs. search needs) returns)

@@ -1,0 +1,21 @@
+-- What a check hands to a host and the host hands to a walk is the same ready start.
+use mathlib.Core.Path.{_≡_, refl, ap}
+use mathlib.Core.Bool.{Bool, true, false}
+use Rattle.rules.specs.declared.Levels.{Levels}
+use Rattle.rules.specs.declared.ReadyStart.{ReadyStart}
+use Rattle.rules.specs.Walk.{levels}
+use Rattle.rules.specs.TwoCalls.{readyStart}
+use Rattle.panel.specs.Flat.{maskOf, levelsOf, flatReady, readyOf}
+
+levels-back : (x y z : Bool) → levelsOf (maskOf (levels x y z)) ≡ levels x y z
+levels-back true true true = refl
+levels-back true true false = refl
+levels-back true false true = refl
+levels-back true false false = refl
+levels-back false true true = refl
+levels-back false true false = refl
+levels-back false false true = refl
+levels-back false false false = refl
+
+pub ready-back : (d : ReadyStart) → readyOf (flatReady d) ≡ d
+ready-back d = ap (λ (v : Levels). readyStart (d .start) (d .apex) v (d .looks)) (levels-back (d .level .x) (d .level .y) (d .level .z))
