@@ -266,7 +266,7 @@ const fn handed(apex: [i64; 3], level: u32, looks: u32) -> Handed {
 /// A walk on a wedge: a line whose p is the ready start's, what else is handed, and the answer as a
 /// session would tell it.
 pub const WALKS: &[(&str, Handed, &str)] = &[
-    // W1 to W8 from what their checks hand back; W5's doesn't.
+    // W1 to W8 from what their checks hand back; that of W5 is refused.
     ("1 2 5 808 100 100 100 0 8", handed([101; 3], 0, 5), "N 1 2 5 5 116"),
     ("1 2 5 801 100 100 100 0 8", handed([101; 3], 0, 11), "N 1 2 5 5 144"),
     ("1 2 5 808 100 100 100 0 7", handed([101; 3], 0, 5), "R 9 101 101 101 4 92"),
