@@ -107,7 +107,8 @@ ulgenzhir_pick ulgenzhir_pick_stack(int32_t width, int32_t height, int32_t depth
  * a check asks the start, the apex and the axes, and hands back a ready start;
  * the walk makes the rounds from there. A check and then the walk from its ready
  * start, of the same solid, frame and reach, give the pick's answer, with its
- * steps and looks.
+ * steps and looks. That may still be 8, 9 or 10: a spot that is ready could be
+ * picked, no more.
  *
  * A ready start is a value. A host may keep it, copy it, walk from it often or
  * never, and may make one of any numbers. It holds no solid, frame or reach: the
@@ -156,14 +157,16 @@ ulgenzhir_check ulgenzhir_check_stack(int32_t width, int32_t height, int32_t dep
  * whether those axes are level.
  */
 ulgenzhir_pick ulgenzhir_walk_wedge(int32_t a, int32_t b, int32_t c, int32_t h,
-                                    ulgenzhir_ready ready, int32_t frame, int32_t reach);
+                                    ulgenzhir_ready ready,
+                                    int32_t frame, int32_t reach);
 
 /*
  * The same on a stack.
  */
 ulgenzhir_pick ulgenzhir_walk_stack(int32_t width, int32_t height, int32_t depth,
                                     const uint8_t *bytes, size_t len,
-                                    ulgenzhir_ready ready, int32_t frame, int32_t reach);
+                                    ulgenzhir_ready ready,
+                                    int32_t frame, int32_t reach);
 
 /*
  * number 0: accepted, and guess is 1: an accepted touch is always a guess.
