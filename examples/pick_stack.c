@@ -1,6 +1,7 @@
 /*
  * Reads a stack of P4 images, picks at a voxel, and prints the face's normal
- * and its unit vector:
+ * and its unit vector. It picks in two calls, as a panel does that lights its
+ * cursor first:
  *
  *   pick_stack FILE X Y Z FRAME REACH
  */
@@ -14,17 +15,34 @@ enum { MOST_ROWS = 256 * 256 * 32, MOST_FILE = 2 * MOST_ROWS };
 
 static uint8_t file[MOST_FILE], rows[MOST_ROWS];
 
+static int print_refusal(uint32_t number, ulgenzhir_point place)
+{
+    printf("refused %u at %d %d %d\n", number, place.x, place.y, place.z);
+    return 1;
+}
+
 static int print_pick(ulgenzhir_pick pick)
 {
-    if (pick.number != 0) {
-        printf("refused %u at %d %d %d\n", pick.number, pick.place.x, pick.place.y, pick.place.z);
-        return 1;
-    }
+    if (pick.number != 0)
+        return print_refusal(pick.number, pick.place);
     ulgenzhir_point n = pick.normal;
     ulgenzhir_lit lit = ulgenzhir_display(n.x, n.y, n.z);
     printf("normal %d %d %d after %u steps and %u looks\n", n.x, n.y, n.z, pick.steps, pick.looks);
     printf("display %.15f %.15f %.15f\n", lit.x, lit.y, lit.z);
     return 0;
+}
+
+/* A panel checks wherever the cursor goes, and walks once it is pressed. */
+static int check_and_walk(int32_t width, int32_t height, int32_t depth, const int *asked)
+{
+    int frame = asked[3], reach = asked[4];
+    ulgenzhir_check check = ulgenzhir_check_stack(width, height, depth, rows, sizeof rows,
+                                                  asked[0], asked[1], asked[2], frame, reach);
+    if (check.number != 0)
+        return print_refusal(check.number, check.place);
+    printf("cursor lit after %u looks\n", check.looks);
+    return print_pick(ulgenzhir_walk_stack(width, height, depth, rows, sizeof rows, check.ready,
+                                           frame, reach));
 }
 
 int main(int argc, char **argv)
@@ -45,7 +63,5 @@ int main(int argc, char **argv)
     int asked[5];
     for (int i = 0; i < 5; i++)
         asked[i] = atoi(argv[i + 2]);
-    return print_pick(ulgenzhir_pick_stack((int32_t)read.width, (int32_t)read.height,
-                                           (int32_t)read.depth, rows, sizeof rows, asked[0],
-                                           asked[1], asked[2], asked[3], asked[4]));
+    return check_and_walk((int32_t)read.width, (int32_t)read.height, (int32_t)read.depth, asked);
 }

@@ -1,5 +1,5 @@
-//! The same from Rust: reads a stack of P4 images, picks at a voxel, and prints the face's normal
-//! and its unit vector:
+//! The same from Rust, in one call: reads a stack of P4 images, picks at a voxel, and prints the
+//! face's normal and its unit vector:
 //!
 //!   pick_stack FILE X Y Z FRAME REACH
 

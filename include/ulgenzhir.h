@@ -16,12 +16,15 @@
  *     same call, and no other thread touches it, or writes one that is only
  *     read, during the call.
  *
- * Numbers. 0 is success. Of a pick or a touch, in the order they are judged:
+ * Numbers. 0 is success. Of a pick, a touch, a check or a walk from a ready
+ * start, in the order they are judged:
  *    1  reach outside 1 to 256                            place 0 0 0
  *    2  frame outside 0 to 7                              place 0 0 0
  *    3  wedge number or stack size out of range,
  *       or too few bytes for the stack                    place 0 0 0
  *    4  the start, or else the apex, is outside the box   that point
+ *   13  the ready start has more than 2 + 6K looks, or
+ *       all three axes level                              place 0 0 0
  *    5  the start is not filled                           the start
  *    6  the apex is filled                                the apex
  *    7  minus an axis's unit vector does not fall, but
@@ -33,10 +36,12 @@
  *    9  the steps allowed are done and a pair still
  *       falls                                             the apex
  *   10  the sizes of the normal add to more than reach    the apex
- * 7 is never given by a touch, 11 only by one. An axis is level if neither its
- * unit vector nor minus it falls; a touch asks for none and has none. The steps
- * allowed are reach less the number of axes that are not level, and none if
- * that is below zero.
+ * A pick gives 1 to 10, a touch 1 to 11 but for 7, a check 1 to 8, a walk from a
+ * ready start 1 to 4, 13 and 8 to 10. K is how many powers there are: 1, 2, 4, ..
+ * up to the first that is at least reach. An axis is level if neither its unit
+ * vector nor minus it falls; a touch asks for none and has none, a walk from a
+ * ready start has those it is handed. The steps allowed are reach less the number
+ * of axes that are not level, and none if that is below zero.
  * Of reading a stack, front to back:
  *   21  no "P4" where an image begins                     offset of the image
  *   22  the header does not fit the rule                  offset of the first wrong byte,
@@ -95,6 +100,72 @@ ulgenzhir_pick ulgenzhir_pick_wedge(int32_t a, int32_t b, int32_t c, int32_t h,
 ulgenzhir_pick ulgenzhir_pick_stack(int32_t width, int32_t height, int32_t depth,
                                     const uint8_t *bytes, size_t len,
                                     int32_t px, int32_t py, int32_t pz,
+                                    int32_t frame, int32_t reach);
+
+/*
+ * A pick in two calls, for a cursor that lights up where a spot could be picked:
+ * a check asks the start, the apex and the axes, and hands back a ready start;
+ * the walk makes the rounds from there. A check and then the walk from its ready
+ * start, of the same solid, frame and reach, give the pick's answer, with its
+ * steps and looks. That may still be 8, 9 or 10: a spot that is ready could be
+ * picked, no more.
+ *
+ * A ready start is a value. A host may keep it, copy it, walk from it often or
+ * never, and may make one of any numbers. It holds no solid, frame or reach: the
+ * walk gets these again.
+ *
+ * Bit 0, 1, 2 of level: axis 0, 1, 2 is level; higher bits are not looked at.
+ */
+typedef struct {
+    ulgenzhir_point start, apex;
+    uint32_t level, looks;
+} ulgenzhir_ready;
+
+/*
+ * number 0: ready, place 0 0 0; looks are those of the ready start, whose start
+ * is the one asked about. Refused: the place and looks of the pick, which has
+ * made no step either; ready all zero.
+ */
+typedef struct {
+    uint32_t number;
+    ulgenzhir_point place;
+    uint32_t looks;
+    ulgenzhir_ready ready;
+} ulgenzhir_check;
+
+/*
+ * The start check: what a pick asks before its rounds.
+ */
+ulgenzhir_check ulgenzhir_check_wedge(int32_t a, int32_t b, int32_t c, int32_t h,
+                                      int32_t px, int32_t py, int32_t pz,
+                                      int32_t frame, int32_t reach);
+
+/*
+ * The same on a stack.
+ */
+ulgenzhir_check ulgenzhir_check_stack(int32_t width, int32_t height, int32_t depth,
+                                      const uint8_t *bytes, size_t len,
+                                      int32_t px, int32_t py, int32_t pz,
+                                      int32_t frame, int32_t reach);
+
+/*
+ * The walk from any ready start. 1 to 4 are judged again, 4 of the handed start,
+ * or else the handed apex; with 1 to 4 and 13 steps and looks are 0. Then the
+ * rounds begin from the handed apex with the handed level axes, and looks are
+ * counted on from the handed ones. Nothing else is asked: neither whether the
+ * start is filled and the apex empty, nor where they lie from each other, nor
+ * whether those axes are level.
+ */
+ulgenzhir_pick ulgenzhir_walk_wedge(int32_t a, int32_t b, int32_t c, int32_t h,
+                                    ulgenzhir_ready ready,
+                                    int32_t frame, int32_t reach);
+
+/*
+ * The same on a stack.
+ */
+ulgenzhir_pick ulgenzhir_walk_stack(int32_t width, int32_t height, int32_t depth,
+                                    const uint8_t *bytes, size_t len,
+                                    ulgenzhir_ready ready,
                                     int32_t frame, int32_t reach);
 
 /*

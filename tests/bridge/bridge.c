@@ -120,35 +120,116 @@ static void put_touch(ulgenzhir_touch answer)
     put_pick(rest);
 }
 
+static void put_ready(ulgenzhir_ready ready)
+{
+    put_point(ready.start);
+    put_point(ready.apex);
+    put(ready.level);
+    put(ready.looks);
+}
+
+static void put_check(ulgenzhir_check answer)
+{
+    put(answer.number);
+    put_point(answer.place);
+    put(answer.looks);
+    put_ready(answer.ready);
+}
+
 static void take_ints(int32_t *ints, int count)
 {
     for (int i = 0; i < count; i++)
         ints[i] = (int32_t)take();
 }
 
-/* A touch, or else a pick. */
-static void on_wedge(int touched)
+/* A check's refusal as the two calls in a row give it: no walk, so no step. */
+static ulgenzhir_pick refused(ulgenzhir_check check)
+{
+    ulgenzhir_pick answer = { .number = check.number, .place = check.place, .looks = check.looks };
+    return answer;
+}
+
+/* The start is among the numbers that came before. */
+static ulgenzhir_ready take_ready(const int32_t *start)
+{
+    ulgenzhir_ready ready = { .start = { start[0], start[1], start[2] } };
+    int32_t apex[3];
+    take_ints(apex, 3);
+    ready.apex = (ulgenzhir_point){ apex[0], apex[1], apex[2] };
+    ready.level = take();
+    ready.looks = take();
+    return ready;
+}
+
+/* The walk from what the check itself handed back. */
+static void wedge_in_a_row(const int32_t *n)
+{
+    ulgenzhir_check check =
+        ulgenzhir_check_wedge(n[0], n[1], n[2], n[3], n[4], n[5], n[6], n[7], n[8]);
+    put_check(check);
+    put_pick(check.number != 0 ? refused(check) : ulgenzhir_walk_wedge(
+        n[0], n[1], n[2], n[3], check.ready, n[7], n[8]));
+}
+
+static void stack_in_a_row(const int32_t *n, uint32_t len)
+{
+    ulgenzhir_check check =
+        ulgenzhir_check_stack(n[0], n[1], n[2], given, len, n[3], n[4], n[5], n[6], n[7]);
+    put_check(check);
+    put_pick(check.number != 0 ? refused(check) : ulgenzhir_walk_stack(
+        n[0], n[1], n[2], given, len, check.ready, n[6], n[7]));
+}
+
+/* A pick, a touch, a check with its walk, or a walk from a ready start. */
+static void on_wedge(void)
 {
     int32_t n[9];
     take_ints(n, 9);
-    if (touched)
-        put_touch(ulgenzhir_touch_wedge(n[0], n[1], n[2], n[3], n[4], n[5], n[6], n[7], n[8]));
-    else
+    switch (take()) {
+    case 'p':
         put_pick(ulgenzhir_pick_wedge(n[0], n[1], n[2], n[3], n[4], n[5], n[6], n[7], n[8]));
+        return;
+    case 't':
+        put_touch(ulgenzhir_touch_wedge(n[0], n[1], n[2], n[3], n[4], n[5], n[6], n[7], n[8]));
+        return;
+    case 'c':
+        wedge_in_a_row(n);
+        return;
+    case 'f':
+        put_pick(ulgenzhir_walk_wedge(n[0], n[1], n[2], n[3], take_ready(n + 4), n[7], n[8]));
+        return;
+    }
+    fail("no such walk");
 }
 
-static void on_stack(int touched)
+static void on_stack(void)
 {
     int32_t n[8];
     take_ints(n, 8);
+    uint32_t walk = take();
+    ulgenzhir_ready ready = { 0 };
+    if (walk == 'f')
+        ready = take_ready(n + 3);
     const uint8_t *sent = next;
     uint32_t len = take_bytes(given);
-    if (touched)
-        put_touch(ulgenzhir_touch_stack(
-            n[0], n[1], n[2], given, len, n[3], n[4], n[5], n[6], n[7]));
-    else
+    switch (walk) {
+    case 'p':
         put_pick(ulgenzhir_pick_stack(
             n[0], n[1], n[2], given, len, n[3], n[4], n[5], n[6], n[7]));
+        break;
+    case 't':
+        put_touch(ulgenzhir_touch_stack(
+            n[0], n[1], n[2], given, len, n[3], n[4], n[5], n[6], n[7]));
+        break;
+    case 'c':
+        stack_in_a_row(n, len);
+        break;
+    case 'f':
+        put_pick(ulgenzhir_walk_stack(n[0], n[1], n[2], given, len, ready, n[6], n[7]));
+        break;
+    default:
+        fail("no such walk");
+    }
     clear(given, sent);
 }
 
@@ -201,10 +282,8 @@ static void display(void)
 static void call(void)
 {
     switch (take()) {
-    case 'w': on_wedge(0); return;
-    case 'W': on_wedge(1); return;
-    case 's': on_stack(0); return;
-    case 'S': on_stack(1); return;
+    case 'w': on_wedge(); return;
+    case 's': on_stack(); return;
     case 'r': read_p4(); return;
     case 'o': write_p4(); return;
     case 'd': display(); return;

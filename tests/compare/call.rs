@@ -1,10 +1,11 @@
 //! One call of an entry point: how it is sent, what the second program answers, and what came back.
 
-use crate::answers::{Lit, Pick, Point, Read, Touch, Written};
+use crate::answers::{Check, Lit, Pick, Point, Read, Ready, Touch, Written};
 use crate::chance::Chance;
 use crate::flat;
 use second::p4;
 use second::pick::pick;
+use second::ready::{check, walk_from, Handed};
 use second::session::asked_by;
 use second::solid::{Sizes, Solid, Stack};
 use second::touch::touch;
@@ -35,29 +36,45 @@ impl Lent {
 pub enum Walk {
     Pick,
     Touch,
+    /// A check, then the walk from what it hands back.
+    InARow,
+    /// From a ready start: the start asked about, and this.
+    From(Handed),
 }
 
 impl Walk {
-    /// What the second program answers.
+    /// What the second program answers. "The two in a row give the old answer": the pick's.
     pub fn second<S: Solid>(self, solid: &S, start: [i64; 3], frame: i64, reach: i64) -> Answer {
+        let picked = || flat::pick(pick(solid, start, frame, reach));
         match self {
-            Walk::Pick => Answer::Pick(flat::pick(pick(solid, start, frame, reach))),
+            Walk::Pick => Answer::Pick(picked()),
             Walk::Touch => Answer::Touch(flat::touch(touch(solid, start, frame, reach))),
+            Walk::InARow => {
+                Answer::InARow(flat::check(check(solid, start, frame, reach)), picked())
+            }
+            Walk::From(handed) => {
+                let ready = second::ready::Ready { start, handed };
+                Answer::Pick(flat::pick(walk_from(solid, ready, frame, reach)))
+            }
         }
     }
 
-    /// The bridge's letter for it, from a pick's.
-    fn letter(self, pick: u8) -> u8 {
+    /// The bridge's letter for it.
+    fn letter(self) -> u8 {
         match self {
-            Walk::Pick => pick,
-            Walk::Touch => pick.to_ascii_uppercase(),
+            Walk::Pick => b'p',
+            Walk::Touch => b't',
+            Walk::InARow => b'c',
+            Walk::From(_) => b'f',
         }
     }
 
-    fn told(self) -> &'static str {
+    fn told(self) -> String {
         match self {
-            Walk::Pick => "pick",
-            Walk::Touch => "touch",
+            Walk::Pick => "pick".into(),
+            Walk::Touch => "touch".into(),
+            Walk::InARow => "check and walk".into(),
+            Walk::From(handed) => format!("walk from {handed:?}"),
         }
     }
 }
@@ -70,6 +87,14 @@ pub struct OnStack {
     pub start: [i32; 3],
     pub frame: i32,
     pub reach: i32,
+}
+
+impl OnStack {
+    /// As a line asks a wedge.
+    pub fn asked_by<'a, A>(&'a self, ask: impl FnOnce(&Stack<'a>, [i64; 3], i64, i64) -> A) -> A {
+        let stack = Stack { sizes: sizes_of(self.sizes), bytes: &self.bytes };
+        ask(&stack, self.start.map(i64::from), self.frame.into(), self.reach.into())
+    }
 }
 
 #[derive(Clone)]
@@ -96,6 +121,8 @@ pub enum Call {
 pub enum Answer {
     Pick(Pick),
     Touch(Touch),
+    /// The check's, and the pick's that the two give.
+    InARow(Check, Pick),
     Read(Read, Vec<u8>),
     Written(Written, Vec<u8>),
     /// The floats' bits, so that -0 is not 0.
@@ -105,7 +132,7 @@ pub enum Answer {
 impl Answer {
     pub fn number(&self) -> u32 {
         match self {
-            Answer::Pick(pick) => pick.number,
+            Answer::Pick(pick) | Answer::InARow(_, pick) => pick.number,
             Answer::Touch(touch) => touch.number,
             Answer::Read(read, _) => read.number,
             Answer::Written(written, _) => written.number,
@@ -114,12 +141,16 @@ impl Answer {
     }
 
     /// What is counted beside the number: how many axes are level in an accepted pick (the parts of
-    /// its normal that are 0), an accepted touch, and the axis of a corner that is not filled.
+    /// its normal that are 0) or in a ready start, an accepted touch, and the axis of a corner that
+    /// is not filled.
     pub fn mark(&self) -> Option<&'static str> {
         match self {
             Answer::Pick(Pick { number: 0, normal: Point { x, y, z }, .. }) => {
                 let level = [x, y, z].iter().filter(|&&&part| part == 0).count();
                 [None, Some("level1"), Some("level2")][level]
+            }
+            Answer::InARow(Check { number: 0, ready, .. }, _) => {
+                Some(["ready", "ready1", "ready2"][ready.level.count_ones() as usize])
             }
             Answer::Touch(Touch { number: 0, .. }) => Some("guess"),
             // The third look, after p and q, is at axis 0's.
@@ -135,6 +166,7 @@ impl Answer {
         match (self, other) {
             (Answer::Pick(pick), _) => format!("{pick:?}"),
             (Answer::Touch(touch), _) => format!("{touch:?}"),
+            (Answer::InARow(check, pick), _) => format!("{check:?} {pick:?}"),
             (Answer::Read(read, ours), Answer::Read(_, theirs)) => {
                 format!("{read:?} {}", difference(ours, theirs))
             }
@@ -161,11 +193,11 @@ fn sizes_of([width, height, depth]: [i32; 3]) -> Sizes {
 }
 
 impl Call {
-    /// The same with a touch asked for in a pick's place.
-    pub fn as_touch(self) -> Call {
+    /// The same with this walk asked for.
+    pub fn asking(self, walk: Walk) -> Call {
         match self {
-            Call::Wedge(_, line) => Call::Wedge(Walk::Touch, line),
-            Call::Stack(_, on) => Call::Stack(Walk::Touch, on),
+            Call::Wedge(_, line) => Call::Wedge(walk, line),
+            Call::Stack(_, on) => Call::Stack(walk, on),
             other => other,
         }
     }
@@ -184,8 +216,7 @@ impl Call {
                 })
             }
             Call::Stack(walk, on) => {
-                let stack = Stack { sizes: sizes_of(on.sizes), bytes: &on.bytes };
-                walk.second(&stack, on.start.map(i64::from), on.frame.into(), on.reach.into())
+                on.asked_by(|stack, start, frame, reach| walk.second(stack, start, frame, reach))
             }
             Call::Read { text, len, lent } => {
                 let mut lent = lent.clone();
@@ -217,10 +248,14 @@ impl Call {
     /// As the bridge takes it.
     pub fn send(&self, batch: &mut Batch) {
         match self {
-            Call::Wedge(walk, line) => batch.ints(walk.letter(b'w'), line),
+            Call::Wedge(walk, line) => {
+                batch.ints(b'w', line);
+                batch.walk(*walk);
+            }
             Call::Stack(walk, on) => {
                 let ([w, h, d], [x, y, z]) = (on.sizes, on.start);
-                batch.ints(walk.letter(b's'), &[w, h, d, x, y, z, on.frame, on.reach]);
+                batch.ints(b's', &[w, h, d, x, y, z, on.frame, on.reach]);
+                batch.walk(*walk);
                 batch.bytes(&on.bytes);
             }
             Call::Read { text, len, lent } => {
@@ -298,6 +333,15 @@ impl Batch {
         numbers.iter().for_each(|&number| self.put(number as u32));
     }
 
+    fn walk(&mut self, walk: Walk) {
+        self.put(walk.letter().into());
+        if let Walk::From(Handed { apex, level, looks }) = walk {
+            apex.iter().for_each(|&part| self.put(part as u32));
+            self.put(level);
+            self.put(looks);
+        }
+    }
+
     /// Runs that are not all zero, eight bytes at a time.
     fn bytes(&mut self, bytes: &[u8]) {
         const PIECE: usize = 8;
@@ -349,9 +393,20 @@ impl Reply {
 
     fn walked(&mut self, walk: Walk) -> Answer {
         match walk {
-            Walk::Pick => Answer::Pick(self.pick()),
+            Walk::Pick | Walk::From(_) => Answer::Pick(self.pick()),
             Walk::Touch => Answer::Touch(Touch::of(self.take(), self.pick())),
+            Walk::InARow => Answer::InARow(self.check(), self.pick()),
         }
+    }
+
+    fn check(&mut self) -> Check {
+        let (number, place, looks) = (self.take(), self.point(), self.take());
+        Check { number, place, looks, ready: self.ready() }
+    }
+
+    fn ready(&mut self) -> Ready {
+        let (start, apex) = (self.point(), self.point());
+        Ready { start, apex, level: self.take(), looks: self.take() }
     }
 
     /// In the order of the header's struct.

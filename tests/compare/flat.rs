@@ -3,6 +3,7 @@
 use crate::answers;
 use second::pick::Pick;
 use second::point::Point;
+use second::ready::{Check, Handed, Ready};
 use second::solid::Sizes;
 use second::touch::{Guess, Touch};
 use second::walk::{Record, Refusal};
@@ -34,6 +35,20 @@ pub fn pick(answer: Pick) -> answers::Pick {
 pub fn touch(answer: Touch) -> answers::Touch {
     let guess = u32::from(answer.is_ok());
     answers::Touch::of(guess, pick(answer.map(|Guess(record)| record)))
+}
+
+pub fn check(answer: Check) -> answers::Check {
+    match answer {
+        Ok(Ready { start, handed: Handed { apex, level, looks } }) => {
+            let (start, apex) = (point(start), point(apex));
+            let ready = answers::Ready { start, apex, level, looks };
+            answers::Check { looks, ready, ..Default::default() }
+        }
+        // No step is made before the rounds.
+        Err(Refusal { number, place, looks, .. }) => {
+            answers::Check { number, place: point(place), looks, ..Default::default() }
+        }
+    }
 }
 
 pub fn read(answer: Result<Sizes, p4::Refusal>) -> answers::Read {

@@ -1,16 +1,21 @@
-//! The listed cases as calls, each pick also as a touch and each touch also as a pick. (That the
-//! second program gives the listed values is checked first.)
+//! The listed cases as calls; each pick, touch and check is asked as all three. (That the second
+//! program gives the listed values is checked first.)
 
 use crate::call::{Call, Lent, Walk};
 use crate::chance::Chance;
 use crate::stacks::on_stack;
-use second::listed::{sum_above_reach_stack, DISPLAYS, LINES, READS, STACKS, TOUCHES, WRITES};
+use second::listed::{
+    few_stack, sum_above_reach_stack, CHECKS, DISPLAYS, LINES, READS, STACKS, STACK_WALKS, TOUCHES,
+    WALKS, WRITES,
+};
 use second::session::numbers;
 
 pub fn calls(chance: &mut Chance, _: u64) -> Vec<Call> {
     let picks: Vec<Call> = lines().into_iter().chain(stacks()).collect();
-    let mut calls: Vec<Call> = picks.iter().cloned().map(Call::as_touch).collect();
-    calls.extend(picks);
+    let mut calls = walks();
+    for walk in [Walk::Pick, Walk::Touch, Walk::InARow] {
+        calls.extend(picks.iter().cloned().map(|call| call.asking(walk)));
+    }
     calls.extend(reads(chance));
     calls.extend(writes(chance));
     calls.extend(DISPLAYS.iter().map(|(n, _)| Call::Display(n.map(|part| part as i32))));
@@ -19,9 +24,22 @@ pub fn calls(chance: &mut Chance, _: u64) -> Vec<Call> {
 
 /// Those that have the form of a line; the others are in the sessions.
 fn lines() -> Vec<Call> {
-    let inputs = LINES.iter().chain(TOUCHES).map(|(input, _)| input.as_bytes());
-    let nine = inputs.filter_map(numbers);
-    nine.map(|nine| Call::Wedge(Walk::Pick, nine.map(|number| number as i32))).collect()
+    let inputs = LINES.iter().chain(TOUCHES).chain(CHECKS).map(|(input, _)| input);
+    inputs.filter_map(|input| line(Walk::Pick, input)).collect()
+}
+
+fn line(walk: Walk, input: &str) -> Option<Call> {
+    let nine = numbers(input.as_bytes())?;
+    Some(Call::Wedge(walk, nine.map(|number| number as i32)))
+}
+
+fn walks() -> Vec<Call> {
+    let on_wedge = WALKS.iter().filter_map(|(input, handed, _)| line(Walk::From(*handed), input));
+    let on_stack = STACK_WALKS.iter().map(|&(places, reach, handed, _)| {
+        let (_, bytes) = few_stack(8, places);
+        Call::Stack(Walk::From(handed), on_stack([8; 3], bytes, [3; 3], 0, reach))
+    });
+    on_wedge.chain(on_stack).collect()
 }
 
 fn stacks() -> Vec<Call> {

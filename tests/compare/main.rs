@@ -23,25 +23,29 @@ mod session_texts;
 mod sessions;
 mod stacks;
 mod tally;
-mod touches;
+mod walks;
 #[path = "../shared/wedge_lines.rs"]
 mod wedge_lines;
 mod wedges;
 mod writes;
 
 use bridge::Bridge;
-use call::{Answer, Batch, Call, Reply};
+use call::{Answer, Batch, Call, Reply, Walk};
 use chance::Chance;
 use std::process::ExitCode;
 use tally::Tally;
+use wedges::SMALL_NORMALS;
 
 /// How a case is made from its own chance and its index.
 enum Make {
     Calls(fn(&mut Chance, u64) -> Vec<Call>),
+    /// The same numbers, with this walk asked for.
+    Walks(Walk, fn(Walk, &mut Chance, u64) -> Vec<Call>),
     Session(fn(&mut Chance, u64) -> Vec<u8>),
 }
 
-use Make::{Calls, Session};
+use Make::{Calls, Session, Walks};
+use Walk::{InARow, Pick, Touch};
 
 struct Kind {
     name: &'static str,
@@ -56,15 +60,27 @@ const fn kind(name: &'static str, cases: u64, make: Make, meets: &'static str) -
 }
 
 const KINDS: &[Kind] = &[
-    kind("listed", 1, Calls(listed::calls), "0 guess 1 2 3 4 5 6 7 8 9 10 11 21 22 23 24 25 27 30"),
-    kind("wedge_heights", wedges::SMALL_NORMALS, Calls(wedges::heights), "0 4 8 level1 level2"),
-    kind("wedge", 600_000, Calls(wedges::any), "0 1 2 3 4 5 6 7 8 9 10 level1 level2"),
-    kind("stack", 80_000, Calls(stacks::any), "0 1 2 3 4 5 6 7 8 9 10 level1 level2"),
-    kind("stack_unforeseen", 100_000, Calls(stacks::unforeseen), "0 7 8 9 10 level1 level2"),
-    kind("touch_heights", wedges::SMALL_NORMALS, Calls(touches::heights), "guess 4 8 11x 11y 11z"),
-    kind("touch_wedge", 300_000, Calls(touches::wedge), "guess 1 2 3 4 5 6 8 9 10 11x 11y 11z"),
-    kind("touch_stack", 20_000, Calls(touches::stack), "guess 1 2 3 4 5 6 8 9 10 11x 11y 11z"),
-    kind("touch_unforeseen", 30_000, Calls(touches::unforeseen), "guess 8 9 10 11x 11y 11z"),
+    kind(
+        "listed",
+        1,
+        Calls(listed::calls),
+        "0 guess 1 2 3 4 5 6 7 8 9 10 11 13 21 22 23 24 25 27 30",
+    ),
+    kind("wedge_heights", SMALL_NORMALS, Walks(Pick, wedges::heights), "0 4 8 level1 level2"),
+    kind("wedge", 600_000, Walks(Pick, wedges::any), "0 1 2 3 4 5 6 7 8 9 10 level1 level2"),
+    kind("stack", 80_000, Walks(Pick, stacks::any), "0 1 2 3 4 5 6 7 8 9 10 level1 level2"),
+    kind("stack_unforeseen", 100_000, Walks(Pick, stacks::unforeseen), "0 7 8 9 10 level1 level2"),
+    kind("touch_heights", SMALL_NORMALS, Walks(Touch, wedges::heights), "guess 4 8 11x 11y 11z"),
+    kind("touch_wedge", 300_000, Walks(Touch, wedges::any), "guess 1 2 3 4 5 6 8 9 10 11x 11y 11z"),
+    kind("touch_stack", 20_000, Walks(Touch, stacks::any), "guess 1 2 3 4 5 6 8 9 10 11x 11y 11z"),
+    kind("touch_unforeseen", 30_000, Walks(Touch, stacks::unforeseen), "guess 8 9 10 11x 11y 11z"),
+    kind("row_heights", SMALL_NORMALS, Walks(InARow, wedges::heights), "0 4 8 ready1 ready2"),
+    kind("row_wedge", 100_000, Walks(InARow, wedges::any), "0 1 2 3 4 5 6 7 8 9 10 ready1 ready2"),
+    kind("row_stack", 8_000, Walks(InARow, stacks::any), "0 1 2 3 4 5 6 7 8 9 10 ready1 ready2"),
+    kind("row_unforeseen", 10_000, Walks(InARow, stacks::unforeseen), "0 7 8 9 10 ready1 ready2"),
+    kind("walk_wedge", 150_000, Calls(walks::wedge), "0 1 2 3 4 8 9 10 13 level1 level2"),
+    kind("walk_stack", 8_000, Calls(walks::stack), "0 1 2 3 4 8 9 10 13 level1 level2"),
+    kind("walk_unforeseen", 15_000, Calls(walks::unforeseen), "0 8 9 10 13 level1 level2"),
     kind("read", 300_000, Calls(reads::any), "0 21 22 23 24 25 27 touching"),
     kind("read_header", 200, Calls(reads::headers), "0 21 22 23 24 25 27 touching"),
     kind("read_many", 600, Calls(reads::many), "0 21 24 26 27"),
@@ -160,6 +176,16 @@ fn all_cases(kind: &Kind, seed: u64, bridge: &mut Bridge) -> Result<Tally, Strin
     }
 }
 
+/// A case's calls; a session has none.
+fn calls_of(kind: &Kind, seed: u64, index: u64) -> Vec<Call> {
+    let mut chance = Chance::of(seed, kind.name, index);
+    match kind.make {
+        Calls(make) => make(&mut chance, index),
+        Walks(walk, make) => make(walk, &mut chance, index),
+        Session(_) => Vec::new(),
+    }
+}
+
 /// As many cases from the front as make a batch; gives the next index.
 fn some_cases(
     kind: &Kind,
@@ -168,22 +194,21 @@ fn some_cases(
     bridge: &mut Bridge,
     tally: &mut Tally,
 ) -> Result<u64, String> {
-    let chance = |index| Chance::of(seed, kind.name, index);
     let again = |index: u64| format!("again: compare --repeat {} {seed} {index}", kind.name);
     match kind.make {
         Session(make) => {
-            let mut chance = chance(cases.start);
+            let mut chance = Chance::of(seed, kind.name, cases.start);
             let input = make(&mut chance, cases.start);
             sessions::compare(&mut chance, &input, tally)
                 .map_err(|difference| format!("{difference}\n{}", again(cases.start)))?;
             Ok(cases.start + 1)
         }
-        Calls(make) => {
+        Calls(_) | Walks(..) => {
             let mut batch = Vec::new();
             let mut bytes = 0;
             let mut index = cases.start;
             while index < cases.end && bytes < BATCH_BYTES {
-                for call in make(&mut chance(index), index) {
+                for call in calls_of(kind, seed, index) {
                     bytes += call.size();
                     batch.push((index, call));
                 }

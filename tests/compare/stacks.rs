@@ -1,4 +1,4 @@
-//! Picks on stacks.
+//! Picks on stacks, and what else is asked of the same numbers.
 
 use crate::call::{Call, OnStack, Walk};
 use crate::chance::Chance;
@@ -158,7 +158,7 @@ const ENDS: [i32; 12] =
     [i32::MIN, i32::MIN + 1, -1, 0, 1, 255, 256, 257, 1 << 16, 1 << 24, i32::MAX - 1, i32::MAX];
 
 /// One number of the call made extreme, or the bytes cut.
-fn damage(chance: &mut Chance, asked: &mut OnStack) {
+pub fn damage(chance: &mut Chance, asked: &mut OnStack) {
     let axis = chance.below(3) as usize;
     match chance.below(6) {
         0 | 1 => asked.sizes[axis] = chance.one_of(&ENDS),
@@ -172,7 +172,11 @@ fn damage(chance: &mut Chance, asked: &mut OnStack) {
     }
 }
 
-pub fn any(chance: &mut Chance, _: u64) -> Vec<Call> {
+pub fn any(walk: Walk, chance: &mut Chance, _: u64) -> Vec<Call> {
+    vec![Call::Stack(walk, asked(chance))]
+}
+
+pub fn asked(chance: &mut Chance) -> OnStack {
     let sides = sides(chance);
     let start = start(chance, sides);
     let (frame, reach) = (frame(chance), reach(chance));
@@ -186,7 +190,7 @@ pub fn any(chance: &mut Chance, _: u64) -> Vec<Call> {
     if chance.percent(8) {
         damage(chance, &mut asked);
     }
-    vec![Call::Stack(Walk::Pick, asked)]
+    asked
 }
 
 pub fn on_stack(sides: Point, bytes: Vec<u8>, start: Point, frame: i64, reach: i64) -> OnStack {
@@ -203,6 +207,7 @@ pub fn on_stack(sides: Point, bytes: Vec<u8>, start: Point, frame: i64, reach: i
 /// its walk goes on for long and meets every kind of round.
 struct Unforeseen {
     sides: Point,
+    start: Point,
     apex: Point,
     level: [bool; 3],
     chance: RefCell<Chance>,
@@ -236,36 +241,37 @@ impl Solid for Unforeseen {
 
     fn filled(&self, point: Point) -> bool {
         let mut decided = self.decided.borrow_mut();
-        let looked_at = decided.len();
         // p is filled, q is empty.
-        *decided.entry(point).or_insert_with(|| match looked_at {
-            0 => true,
-            1 => false,
-            _ => self.chance.borrow_mut().percent(self.density_at(point)),
+        *decided.entry(point).or_insert_with(|| {
+            let by_chance = || self.chance.borrow_mut().percent(self.density_at(point));
+            point == self.start || point != self.apex && by_chance()
         })
     }
 }
 
-pub fn unforeseen(chance: &mut Chance, _: u64) -> Vec<Call> {
-    decided_by(Walk::Pick, chance)
+pub fn unforeseen(walk: Walk, chance: &mut Chance, _: u64) -> Vec<Call> {
+    decided_by(chance, |_, _| walk)
 }
 
-/// A stack decided as the second program's walk goes on, and that walk on it.
-pub fn decided_by(walk: Walk, chance: &mut Chance) -> Vec<Call> {
+/// A stack decided as the second program's walk goes on, and that walk on it; which one may go by q.
+pub fn decided_by(chance: &mut Chance, walk: impl FnOnce(&mut Chance, Point) -> Walk) -> Vec<Call> {
     let large = if chance.percent(15) { 256 } else { 100 };
     let side = chance.one_of(&[24, 48, 64, large]);
     let sides = [0, 1, 2].map(|_| side - chance.between(0, 7));
     let start = sides.map(|side| side / 2 + chance.between(-2, 2));
     let (frame, most) = (chance.between(0, 7), chance.one_of(&[6, 8, 16, 32, 64, 128]));
     let reach = chance.between(1, most);
+    let apex = plus(start, signs(frame));
     let solid = Unforeseen {
         sides,
-        apex: plus(start, signs(frame)),
+        start,
+        apex,
         level: level_axes(chance),
         chance: RefCell::new(Chance::of(chance.bits(), "decided", 0)),
         density: chance.one_of(&[5, 15, 30, 50, 70, 90]),
         decided: RefCell::default(),
     };
+    let walk = walk(chance, apex);
     walk.second(&solid, start, frame, reach);
     let [width, height, depth] = sides;
     let sizes = Sizes { width, height, depth };

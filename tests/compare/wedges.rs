@@ -1,4 +1,4 @@
-//! Picks on wedges.
+//! Picks on wedges, and what else is asked of the same numbers.
 
 use crate::call::{Call, Walk};
 use crate::chance::Chance;
@@ -8,8 +8,9 @@ use second::point::{dot, lay, plus, signs};
 /// How many normals there are whose parts, from 0 on, add to at most 15.
 pub const SMALL_NORMALS: u64 = 625;
 
-/// One small normal: every height of q, every frame, reach w and above, in the middle and by a wall.
-pub fn heights(chance: &mut Chance, index: u64) -> Vec<Call> {
+/// One small normal: every height of q (at 0 it is on the plane's first empty level), every frame,
+/// reach w and above, in the middle and by a wall.
+pub fn heights(walk: Walk, chance: &mut Chance, index: u64) -> Vec<Call> {
     let normal = normals(15)[index as usize];
     let w: i64 = normal.iter().sum();
     let mut calls = Vec::new();
@@ -20,12 +21,12 @@ pub fn heights(chance: &mut Chance, index: u64) -> Vec<Call> {
             let by_wall = near_walls(chance);
             let start = chance.one_of(&[[511; 3], [500, 520, 505], by_wall]);
             let h = dot(laid, plus(start, signs(frame))) - height;
-            calls.push(Call::Wedge(Walk::Pick, line_of(laid, h, start, frame, reach)));
+            calls.push(Call::Wedge(walk, line_of(laid, h, start, frame, reach)));
         }
     }
     calls
 }
 
-pub fn any(chance: &mut Chance, _: u64) -> Vec<Call> {
-    vec![Call::Wedge(Walk::Pick, line(chance))]
+pub fn any(walk: Walk, chance: &mut Chance, _: u64) -> Vec<Call> {
+    vec![Call::Wedge(walk, line(chance))]
 }

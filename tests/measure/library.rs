@@ -1,10 +1,10 @@
 //! The panel's library as include/ulgenzhir.h tells it.
 
-use crate::answers::{Lit, Pick, Read, Touch, Written};
+use crate::answers::{Check, Lit, Pick, Read, Ready, Touch, Written};
 
 // Safe: a Rust slice's pointer is never null, and a `&mut` slice overlaps no other.
 
-/// A pick and a touch are called alike.
+/// A pick, a touch and a check are called alike.
 macro_rules! walk {
     ($answer:ty, $wedge:ident calls $c_wedge:ident, $stack:ident calls $c_stack:ident) => {
         extern "C" {
@@ -52,8 +52,28 @@ macro_rules! walk {
 
 walk!(Pick, pick_wedge calls ulgenzhir_pick_wedge, pick_stack calls ulgenzhir_pick_stack);
 walk!(Touch, touch_wedge calls ulgenzhir_touch_wedge, touch_stack calls ulgenzhir_touch_stack);
+walk!(Check, check_wedge calls ulgenzhir_check_wedge, check_stack calls ulgenzhir_check_stack);
 
 extern "C" {
+    fn ulgenzhir_walk_wedge(
+        a: i32,
+        b: i32,
+        c: i32,
+        h: i32,
+        ready: Ready,
+        frame: i32,
+        reach: i32,
+    ) -> Pick;
+    fn ulgenzhir_walk_stack(
+        width: i32,
+        height: i32,
+        depth: i32,
+        bytes: *const u8,
+        len: usize,
+        ready: Ready,
+        frame: i32,
+        reach: i32,
+    ) -> Pick;
     fn ulgenzhir_read_p4(
         input: *const u8,
         input_len: usize,
@@ -70,6 +90,21 @@ extern "C" {
         out_len: usize,
     ) -> Written;
     fn ulgenzhir_display(nx: i32, ny: i32, nz: i32) -> Lit;
+}
+
+pub fn walk_wedge([a, b, c, h]: [i32; 4], ready: Ready, frame: i32, reach: i32) -> Pick {
+    unsafe { ulgenzhir_walk_wedge(a, b, c, h, ready, frame, reach) }
+}
+
+pub fn walk_stack(
+    [width, height, depth]: [i32; 3],
+    bytes: &[u8],
+    ready: Ready,
+    frame: i32,
+    reach: i32,
+) -> Pick {
+    let (pointer, len) = (bytes.as_ptr(), bytes.len());
+    unsafe { ulgenzhir_walk_stack(width, height, depth, pointer, len, ready, frame, reach) }
 }
 
 pub fn read_p4(input: &[u8], rows: &mut [u8]) -> Read {

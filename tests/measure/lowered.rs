@@ -1,10 +1,12 @@
 //! The panel's library from its own LLVM module, compiled for a machine that is no x86-64 (see
 //! tests/measure/here). The module is lowered for x86-64, so the calls are written as they look
-//! there: a large struct is stored through a first pointer, a small one comes back as a pair.
+//! there: a large struct is stored through a first pointer, a small one comes back as a pair, and
+//! one that is handed lies on the stack. This is for Arm, whose first eight numbers are in registers:
+//! what follows them lies there.
 
-use crate::answers::{Lit, Pick, Read, Touch, Written};
+use crate::answers::{Check, Lit, Pick, Point, Read, Ready, Touch, Written};
 
-/// A pick and a touch are called alike.
+/// A pick, a touch and a check are called alike.
 macro_rules! walk {
     ($answer:ty, $wedge:ident calls $c_wedge:ident, $stack:ident calls $c_stack:ident) => {
         extern "C" {
@@ -58,8 +60,37 @@ macro_rules! walk {
 
 walk!(Pick, pick_wedge calls ulgenzhir_pick_wedge, pick_stack calls ulgenzhir_pick_stack);
 walk!(Touch, touch_wedge calls ulgenzhir_touch_wedge, touch_stack calls ulgenzhir_touch_stack);
+walk!(Check, check_wedge calls ulgenzhir_check_wedge, check_stack calls ulgenzhir_check_stack);
 
 extern "C" {
+    fn ulgenzhir_walk_wedge(
+        answer: *mut Pick,
+        a: i32,
+        b: i32,
+        c: i32,
+        h: i32,
+        frame: i32,
+        reach: i32,
+        eighth: u64,
+        ready0: u64,
+        ready1: u64,
+        ready2: u64,
+        ready3: u64,
+    ) -> *mut Pick;
+    fn ulgenzhir_walk_stack(
+        answer: *mut Pick,
+        width: i32,
+        height: i32,
+        depth: i32,
+        bytes: *const u8,
+        len: usize,
+        frame: i32,
+        reach: i32,
+        ready0: u64,
+        ready1: u64,
+        ready2: u64,
+        ready3: u64,
+    ) -> *mut Pick;
     fn ulgenzhir_read_p4(
         answer: *mut Read,
         input: *const u8,
@@ -81,6 +112,29 @@ extern "C" {
 extern "Rust" {
     /// Number and x, then y and z, in one register of each kind.
     fn ulgenzhir_display(nx: i32, ny: i32, nz: i32) -> (u64, f64);
+}
+
+/// The ready start's eight numbers, two at a time.
+fn pairs(Ready { start, apex, level, looks }: Ready) -> [u64; 4] {
+    let pair = |low: u32, high: u32| u64::from(high) << 32 | u64::from(low);
+    let [[x, y, z], [qx, qy, qz]] =
+        [start, apex].map(|Point { x, y, z }| [x as u32, y as u32, z as u32]);
+    [pair(x, y), pair(z, qx), pair(qy, qz), pair(level, looks)]
+}
+
+pub fn walk_wedge([a, b, c, h]: [i32; 4], ready: Ready, frame: i32, reach: i32) -> Pick {
+    let mut answer = Pick::default();
+    let [r0, r1, r2, r3] = pairs(ready);
+    unsafe { ulgenzhir_walk_wedge(&mut answer, a, b, c, h, frame, reach, 0, r0, r1, r2, r3) };
+    answer
+}
+
+pub fn walk_stack([w, h, d]: [i32; 3], bytes: &[u8], ready: Ready, frame: i32, reach: i32) -> Pick {
+    let mut answer = Pick::default();
+    let (from, len) = (bytes.as_ptr(), bytes.len());
+    let [r0, r1, r2, r3] = pairs(ready);
+    unsafe { ulgenzhir_walk_stack(&mut answer, w, h, d, from, len, frame, reach, r0, r1, r2, r3) };
+    answer
 }
 
 pub fn read_p4(input: &[u8], rows: &mut [u8]) -> Read {

@@ -127,7 +127,7 @@ fn timed_wedges<A: PartialEq + Debug>(
     timed(name, lines, |&line| library(line), |&line| plain(line))
 }
 
-/// One pick or touch on a stack.
+/// One pick, touch or check on a stack.
 struct Asked<'a> {
     side: i32,
     bytes: &'a [u8],
@@ -160,12 +160,14 @@ fn asked_in_the_middle(stacks: &[Vec<u8>], reach: i32) -> Vec<Asked<'_>> {
     stacks.iter().map(|bytes| Asked { side: 256, bytes, start: [127; 3], reach }).collect()
 }
 
+/// By the number of level axes.
+const FACES: [&str; 3] = ["", ", one level axis", ", two level axes"];
+
 fn picks(rows: &mut Vec<Timed>) -> Vec<String> {
     let mut notes = Vec::new();
     for (reach, level_axes) in [(8, 0), (16, 0), (32, 0), (16, 1), (16, 2)] {
         let lines = typical_lines(reach, level_axes, 400);
-        let faces = ["", ", one level axis", ", two level axes"][level_axes];
-        let name = format!("typical picks, wedge, reach {reach}{faces}");
+        let name = format!("typical picks, wedge, reach {reach}{}", FACES[level_axes]);
         rows.push(timed_wedges(&name, &lines, library::pick_wedge, plain::pick_wedge));
     }
     let (line, looks) = worst::worst_slope(WEDGE_SIDE, BEST_SLOPE, 4000);
@@ -184,6 +186,41 @@ fn picks(rows: &mut Vec<Timed>) -> Vec<String> {
     let name = format!("worst pick found, stack 256, {} looks", worst.looks);
     rows.push(timed_stacks(&name, &[asked], ours, theirs));
     notes
+}
+
+/// The typical picks once more, as a check and as the walk from what it hands back.
+fn two_calls(rows: &mut Vec<Timed>) {
+    for (level_axes, faces) in FACES.iter().enumerate() {
+        let lines = typical_lines(16, level_axes, 400);
+        let name = format!("typical checks, wedge, reach 16{faces}");
+        rows.push(timed_wedges(&name, &lines, library::check_wedge, plain::check_wedge));
+        let checked: Vec<_> =
+            lines.iter().map(|&line| (line, plain::check_wedge(line).ready)).collect();
+        rows.push(timed(
+            &format!("typical walks from a ready start, wedge, reach 16{faces}"),
+            &checked,
+            |&([a, b, c, h, .., frame, reach], ready)| {
+                library::walk_wedge([a, b, c, h], ready, frame, reach)
+            },
+            |&([a, b, c, h, .., frame, reach], ready)| {
+                plain::walk_wedge([a, b, c, h], ready, frame, reach)
+            },
+        ));
+    }
+    let stacks = typical_stacks(2);
+    let asked = asked_in_the_middle(&stacks, 16);
+    let (ours, theirs) = (library::check_stack, plain::check_stack);
+    rows.push(timed_stacks("typical checks, stack 256, reach 16", &asked, ours, theirs));
+    let checked: Vec<_> = stacks
+        .iter()
+        .map(|bytes| (bytes, theirs([256; 3], bytes, [127; 3], 0, 16).ready))
+        .collect();
+    rows.push(timed(
+        "typical walks from a ready start, stack 256, reach 16",
+        &checked,
+        |&(bytes, ready)| library::walk_stack([256; 3], bytes, ready, 0, 16),
+        |&(bytes, ready)| plain::walk_stack([256; 3], bytes, ready, 0, 16),
+    ));
 }
 
 /// (1,1,254) takes as many steps as are ever allowed, 253, and on a wedge 5 + 6·254 looks: the
@@ -273,6 +310,7 @@ fn print_slowest(worst: &str, walks: &str, rows: &[Timed]) {
 fn main() {
     let mut rows = Vec::new();
     let notes = picks(&mut rows);
+    two_calls(&mut rows);
     touches(&mut rows);
     stacks(&mut rows);
     displays(&mut rows);

@@ -1,7 +1,7 @@
 //! The same walk, reader, writer and display normal as a Rust programmer would write them for
 //! speed: small numbers, early ends, slices copied whole. What the library is timed against.
 
-use crate::answers::{Lit, Pick, Point, Read, Touch, Written};
+use crate::answers::{Check, Lit, Pick, Point, Read, Ready, Touch, Written};
 
 type Vector = [i32; 3];
 
@@ -86,8 +86,14 @@ fn inside(sides: Vector, point: Vector) -> bool {
         && (point[2] as u32) < sides[2] as u32
 }
 
-/// A pick's walk, or a touch's, each compiled for itself.
-struct Walk<'a, S, const TOUCH: bool> {
+/// What a walk is made for: a pick, a touch, a check or a walk from a ready start. Each is compiled
+/// for itself.
+const PICK: u8 = 0;
+const TOUCH: u8 = 1;
+const CHECK: u8 = 2;
+const FROM: u8 = 3;
+
+struct Walk<'a, S, const CALL: u8> {
     solid: &'a S,
     sides: Vector,
     apex: Vector,
@@ -103,7 +109,7 @@ struct Stop(u32, Vector);
 const PAIRS: [(usize, usize); 6] = [(0, 1), (0, 2), (1, 0), (1, 2), (2, 0), (2, 1)];
 const UNITS: [Vector; 3] = [[1, 0, 0], [0, 1, 0], [0, 0, 1]];
 
-impl<S: Solid, const TOUCH: bool> Walk<'_, S, TOUCH> {
+impl<S: Solid, const CALL: u8> Walk<'_, S, CALL> {
     #[inline]
     fn look(&mut self, point: Vector) -> Result<bool, Stop> {
         if !inside(self.sides, point) {
@@ -121,7 +127,7 @@ impl<S: Solid, const TOUCH: bool> Walk<'_, S, TOUCH> {
             if self.look(plus(self.apex, times(power, laid)))? {
                 return Ok(true);
             }
-            if TOUCH || power >= self.reach {
+            if CALL == TOUCH || power >= self.reach {
                 return Ok(false);
             }
             power *= 2;
@@ -136,7 +142,7 @@ impl<S: Solid, const TOUCH: bool> Walk<'_, S, TOUCH> {
         if self.look(self.apex)? {
             return Err(Stop(6, self.apex));
         }
-        if TOUCH {
+        if CALL == TOUCH {
             self.corners()
         } else {
             self.axes()
@@ -214,8 +220,8 @@ impl<S: Solid, const TOUCH: bool> Walk<'_, S, TOUCH> {
         }
     }
 
-    fn end(&mut self, start: Vector) -> Result<Pick, Stop> {
-        let level = self.begin(start)?;
+    /// The rounds and the end.
+    fn end(&mut self, level: [bool; 3]) -> Result<Pick, Stop> {
         let m = self.walk(level)?;
         let mut n = plus(plus(cross(m[0], m[1]), cross(m[1], m[2])), cross(m[2], m[0]));
         for axis in (0..3).filter(|&axis| level[axis]) {
@@ -243,43 +249,104 @@ fn refused(number: u32, place: Vector, steps: u32, looks: u32) -> Pick {
     Pick { number, place: point(place), steps, looks, ..Default::default() }
 }
 
+/// The walk of a solid, unless 1 to 4 refuse it. The apex goes by the signs.
+#[inline]
+fn placed<S: Solid, const CALL: u8>(
+    (solid, permitted): &(S, bool),
+    start: Vector,
+    apex: impl FnOnce(Vector) -> Vector,
+    frame: i32,
+    reach: i32,
+) -> Result<Walk<'_, S, CALL>, Stop> {
+    if !(1..=256).contains(&reach) {
+        return Err(Stop(1, [0; 3]));
+    }
+    if !(0..=7).contains(&frame) {
+        return Err(Stop(2, [0; 3]));
+    }
+    if !permitted {
+        return Err(Stop(3, [0; 3]));
+    }
+    let sides = solid.sides();
+    if !inside(sides, start) {
+        return Err(Stop(4, start));
+    }
+    let signs = [1 - 2 * (frame & 1), 1 - (frame & 2), 1 - (frame >> 1 & 2)];
+    let apex = apex(signs);
+    if !inside(sides, apex) {
+        return Err(Stop(4, apex));
+    }
+    Ok(Walk { solid, sides, apex, signs, reach, steps: 0, looks: 0 })
+}
+
 /// All of an answer but a touch's mark.
-fn walked<S: Solid, const TOUCH: bool>(
-    solid: &S,
-    permitted: bool,
+#[inline]
+fn walked<S: Solid, const CALL: u8>(
+    solid: &(S, bool),
     start: Vector,
     frame: i32,
     reach: i32,
 ) -> Pick {
-    if !(1..=256).contains(&reach) {
-        return refused(1, [0; 3], 0, 0);
+    match placed::<S, CALL>(solid, start, |signs| plus(start, signs), frame, reach) {
+        Ok(mut walk) => {
+            let end = walk.begin(start).and_then(|level| walk.end(level));
+            end.unwrap_or_else(|Stop(number, place)| refused(number, place, walk.steps, walk.looks))
+        }
+        Err(Stop(number, place)) => refused(number, place, 0, 0),
     }
-    if !(0..=7).contains(&frame) {
-        return refused(2, [0; 3], 0, 0);
-    }
-    if !permitted {
-        return refused(3, [0; 3], 0, 0);
-    }
-    let sides = solid.sides();
-    if !inside(sides, start) {
-        return refused(4, start, 0, 0);
-    }
-    let signs = [1 - 2 * (frame & 1), 1 - (frame & 2), 1 - (frame >> 1 & 2)];
-    let apex = plus(start, signs);
-    if !inside(sides, apex) {
-        return refused(4, apex, 0, 0);
-    }
-    let mut walk = Walk::<S, TOUCH> { solid, sides, apex, signs, reach, steps: 0, looks: 0 };
-    walk.end(start)
-        .unwrap_or_else(|Stop(number, place)| refused(number, place, walk.steps, walk.looks))
 }
 
 #[inline]
-fn on_wedge<const TOUCH: bool>([a, b, c, h, x, y, z, frame, reach]: [i32; 9]) -> Pick {
+fn checked<S: Solid>(solid: &(S, bool), start: Vector, frame: i32, reach: i32) -> Check {
+    let refused = |Stop(number, place), looks| Check {
+        number,
+        place: point(place),
+        looks,
+        ..Default::default()
+    };
+    match placed::<S, CHECK>(solid, start, |signs| plus(start, signs), frame, reach) {
+        Ok(mut walk) => match walk.begin(start) {
+            Ok(level) => {
+                let level = (0..3).map(|axis| u32::from(level[axis]) << axis).sum();
+                let (start, apex, looks) = (point(start), point(walk.apex), walk.looks);
+                let ready = Ready { start, apex, level, looks };
+                Check { looks, ready, ..Default::default() }
+            }
+            Err(stop) => refused(stop, walk.looks),
+        },
+        Err(stop) => refused(stop, 0),
+    }
+}
+
+#[inline]
+fn walked_from<S: Solid>(solid: &(S, bool), ready: Ready, frame: i32, reach: i32) -> Pick {
+    let [start, apex] = [ready.start, ready.apex].map(|Point { x, y, z }| [x, y, z]);
+    match placed::<S, FROM>(solid, start, |_| apex, frame, reach) {
+        Ok(mut walk) => {
+            let level = [0, 1, 2].map(|axis| ready.level >> axis & 1 == 1);
+            let powers = 1 + (reach as u32).next_power_of_two().trailing_zeros();
+            if ready.looks > 2 + 6 * powers || level == [true; 3] {
+                return refused(13, [0; 3], 0, 0);
+            }
+            walk.looks = ready.looks;
+            let end = walk.end(level);
+            end.unwrap_or_else(|Stop(number, place)| refused(number, place, walk.steps, walk.looks))
+        }
+        Err(Stop(number, place)) => refused(number, place, 0, 0),
+    }
+}
+
+/// A wedge and whether it is permitted.
+#[inline]
+fn wedge([a, b, c, h]: [i32; 4]) -> (Wedge, bool) {
     let permitted = [a, b, c].iter().all(|part| (-1000..=1000).contains(part))
         && (-4_000_000..=4_000_000).contains(&h);
-    let solid = Wedge { abc: [a, b, c], h };
-    walked::<_, TOUCH>(&solid, permitted, [x, y, z], frame, reach)
+    (Wedge { abc: [a, b, c], h }, permitted)
+}
+
+#[inline]
+fn on_wedge<const CALL: u8>([a, b, c, h, x, y, z, frame, reach]: [i32; 9]) -> Pick {
+    walked::<_, CALL>(&wedge([a, b, c, h]), [x, y, z], frame, reach)
 }
 
 fn guess(rest: Pick) -> Touch {
@@ -288,12 +355,22 @@ fn guess(rest: Pick) -> Touch {
 
 #[inline(never)]
 pub fn pick_wedge(line: [i32; 9]) -> Pick {
-    on_wedge::<false>(line)
+    on_wedge::<PICK>(line)
 }
 
 #[inline(never)]
 pub fn touch_wedge(line: [i32; 9]) -> Touch {
-    guess(on_wedge::<true>(line))
+    guess(on_wedge::<TOUCH>(line))
+}
+
+#[inline(never)]
+pub fn check_wedge([a, b, c, h, x, y, z, frame, reach]: [i32; 9]) -> Check {
+    checked(&wedge([a, b, c, h]), [x, y, z], frame, reach)
+}
+
+#[inline(never)]
+pub fn walk_wedge(slope: [i32; 4], ready: Ready, frame: i32, reach: i32) -> Pick {
+    walked_from(&wedge(slope), ready, frame, reach)
 }
 
 fn row_bytes(width: i32) -> usize {
@@ -305,22 +382,27 @@ fn sizes_permitted(sizes: Vector, len: usize) -> bool {
         && row_bytes(sizes[0]) * sizes[1] as usize * sizes[2] as usize <= len
 }
 
+/// A stack and whether it is permitted.
 #[inline]
-fn on_stack<const TOUCH: bool>(
+fn stack(sizes: Vector, bytes: &[u8]) -> (Stack<'_>, bool) {
+    let stack = Stack { sides: sizes, row_bytes: row_bytes(sizes[0]), bytes };
+    (stack, sizes_permitted(sizes, bytes.len()))
+}
+
+#[inline]
+fn on_stack<const CALL: u8>(
     sizes: [i32; 3],
     bytes: &[u8],
     start: [i32; 3],
     frame: i32,
     reach: i32,
 ) -> Pick {
-    let solid = Stack { sides: sizes, row_bytes: row_bytes(sizes[0]), bytes };
-    let permitted = sizes_permitted(sizes, bytes.len());
-    walked::<_, TOUCH>(&solid, permitted, start, frame, reach)
+    walked::<_, CALL>(&stack(sizes, bytes), start, frame, reach)
 }
 
 #[inline(never)]
 pub fn pick_stack(sizes: [i32; 3], bytes: &[u8], start: [i32; 3], frame: i32, reach: i32) -> Pick {
-    on_stack::<false>(sizes, bytes, start, frame, reach)
+    on_stack::<PICK>(sizes, bytes, start, frame, reach)
 }
 
 #[inline(never)]
@@ -331,7 +413,23 @@ pub fn touch_stack(
     frame: i32,
     reach: i32,
 ) -> Touch {
-    guess(on_stack::<true>(sizes, bytes, start, frame, reach))
+    guess(on_stack::<TOUCH>(sizes, bytes, start, frame, reach))
+}
+
+#[inline(never)]
+pub fn check_stack(
+    sizes: [i32; 3],
+    bytes: &[u8],
+    start: [i32; 3],
+    frame: i32,
+    reach: i32,
+) -> Check {
+    checked(&stack(sizes, bytes), start, frame, reach)
+}
+
+#[inline(never)]
+pub fn walk_stack(sizes: [i32; 3], bytes: &[u8], ready: Ready, frame: i32, reach: i32) -> Pick {
+    walked_from(&stack(sizes, bytes), ready, frame, reach)
 }
 
 fn read_refused(number: u32, value: usize) -> Read {

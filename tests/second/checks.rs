@@ -5,8 +5,12 @@ use crate::listed::*;
 use crate::p4;
 use crate::pick::pick;
 use crate::point::{dot, lay, plus, signs, Point};
-use crate::session::{numbers, pick_of, session, told, told_touch, touch_of, MOST_BYTES};
-use crate::solid::{Sizes, Stack, Wedge};
+use crate::ready::{check, walk_from, Ready};
+use crate::session::{
+    asked_by, check_of, numbers, pick_of, session, told, told_check, told_touch, touch_of, walk_of,
+    MOST_BYTES,
+};
+use crate::solid::{Sizes, Solid, Stack, Wedge};
 use crate::touch::{touch, Guess};
 use crate::walk::{Record, Refusal};
 
@@ -16,6 +20,12 @@ pub fn all() {
     touches();
     touch_triangles();
     first_empty_level();
+    starts();
+    walks();
+    stack_walks();
+    listed_rows();
+    slope_rows();
+    stack_rows();
     sessions();
     a_line_cut_at_the_last_byte_read();
     sum_above_reach();
@@ -96,6 +106,89 @@ fn on_first_empty_level(parts: Point, frame: i64) {
 }
 
 #[cfg_attr(test, test)]
+pub fn starts() {
+    for (input, output) in CHECKS {
+        let nine @ [_, _, _, _, x, y, z, ..] = numbers(input.as_bytes()).unwrap();
+        let answer = check_of(nine);
+        assert_eq!(told_check(answer), format!("{output}\n"), "{input}");
+        assert!(answer.map_or(true, |ready| ready.start == [x, y, z]), "{input}");
+    }
+}
+
+#[cfg_attr(test, test)]
+pub fn walks() {
+    for (input, handed, output) in WALKS {
+        let answer = walk_of(numbers(input.as_bytes()).unwrap(), *handed);
+        assert_eq!(told(answer), format!("{output}\n"), "{input} {handed:?}");
+    }
+}
+
+#[cfg_attr(test, test)]
+pub fn stack_walks() {
+    for &(places, reach, handed, output) in STACK_WALKS {
+        let (sizes, bytes) = few_stack(8, places);
+        let ready = Ready { start: [3; 3], handed };
+        let answer = walk_from(&Stack { sizes, bytes: &bytes }, ready, 0, reach);
+        assert_eq!(told(answer), format!("{output}\n"), "{handed:?}");
+    }
+}
+
+/// "After a check of the same solid, frame, reach and start, the two in a row give the old answer
+/// and counts."
+fn row_as_pick<S: Solid>(solid: &S, start: Point, frame: i64, reach: i64) {
+    let checked = check(solid, start, frame, reach);
+    let row = checked.and_then(|ready| walk_from(solid, ready, frame, reach));
+    assert_eq!(row, pick(solid, start, frame, reach), "{start:?} {frame} {reach}");
+}
+
+#[cfg_attr(test, test)]
+pub fn listed_rows() {
+    let inputs = LINES.iter().chain(TOUCHES).chain(CHECKS).map(|(input, _)| input.as_bytes());
+    for nine in inputs.filter_map(numbers) {
+        asked_by(nine, row_as_pick);
+    }
+}
+
+/// Every small normal, level along an axis or two or not, at every height of q, in the middle and
+/// by a wall.
+#[cfg_attr(test, test)]
+pub fn slope_rows() {
+    let parts = || 0..=3;
+    for [a, b] in parts().flat_map(|a| parts().map(move |b| [a, b])) {
+        for (c, frame) in parts().flat_map(|c| (0..8).map(move |frame| (c, frame))) {
+            slope_rows_of(lay(signs(frame), [a, b, c]), frame);
+        }
+    }
+}
+
+fn slope_rows_of(abc: Point, frame: i64) {
+    for start in [[511; 3], [3, 1020, 511]] {
+        let level = dot(abc, plus(start, signs(frame)));
+        for h in level - 10..=level + 1 {
+            for reach in [1, 2, 5, 9] {
+                row_as_pick(&Wedge { abc, h }, start, frame, reach);
+            }
+        }
+    }
+}
+
+/// Voxels as if by chance, p filled and q empty among them.
+#[cfg_attr(test, test)]
+pub fn stack_rows() {
+    let start = [6; 3];
+    for seed in 0..200 {
+        let frame = seed % 8;
+        let mixed = |[x, y, z]: Point| (x * 31 + y * 57 + z * 83 + seed * 7919).pow(2) / 64 % 101;
+        let filled = |point| point == start || mixed(point) < seed / 2;
+        let apex = plus(start, signs(frame));
+        let (sizes, bytes) = stack_where(14, |point| point != apex && filled(point));
+        for reach in 1..=6 {
+            row_as_pick(&Stack { sizes, bytes: &bytes }, start, frame, reach);
+        }
+    }
+}
+
+#[cfg_attr(test, test)]
 pub fn sessions() {
     for (input, output) in SESSIONS {
         assert_eq!(session(input), *output);
@@ -134,6 +227,8 @@ pub fn sum_above_reach() {
     // What is filled is at power 1, so a touch takes the same steps: three rounds.
     assert_eq!(told_touch(touch(&stack, [31, 31, 31], 0, 5)), "R 10 32 32 32 2 23\n");
     assert_eq!(told_touch(touch(&stack, [31, 31, 31], 0, 6)), "G 3 2 1 2 23\n");
+    row_as_pick(&stack, [31, 31, 31], 0, 5);
+    row_as_pick(&stack, [31, 31, 31], 0, 6);
 }
 
 #[cfg_attr(test, test)]
@@ -143,8 +238,13 @@ pub fn stacks() {
         let stack = Stack { sizes, bytes: &bytes };
         let picked = told(pick(&stack, case.start, 0, case.reach));
         let touched = told_touch(touch(&stack, case.start, 0, case.reach));
-        let expected = [case.told.pick, case.told.touch].map(|told| format!("{told}\n"));
-        assert_eq!([picked, touched], expected);
+        let checked = told_check(check(&stack, case.start, 0, case.reach));
+        let Told { pick, touch, check } = case.told;
+        assert_eq!(
+            [picked, touched, checked],
+            [pick, touch, check].map(|told| format!("{told}\n"))
+        );
+        row_as_pick(&stack, case.start, 0, case.reach);
     }
 }
 

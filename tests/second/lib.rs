@@ -9,6 +9,7 @@ pub mod listed;
 pub mod p4;
 pub mod pick;
 pub mod point;
+pub mod ready;
 pub mod session;
 pub mod solid;
 pub mod touch;

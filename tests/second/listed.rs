@@ -2,6 +2,7 @@
 //! the lines of docs/LIMITS.md, with every expected value written out. The unit checks hold the
 //! second program to them, and the comparison holds the library to them.
 
+use crate::ready::Handed;
 use crate::solid::Sizes;
 
 /// A line of a wedge session and what is printed for it.
@@ -209,6 +210,157 @@ pub const TOUCH_TRIANGLES: &[(&str, [[i64; 3]; 3])] = &[
     ("1 1 1 3 0 0 0 0 3", [[1, 0, 0], [0, 1, 0], [0, 0, 1]]),
 ];
 
+/// A start check of a wedge, asked as a line asks a pick, and its answer as a session would tell it,
+/// "S" for a ready start: its apex, its level axes (bit 0, 1, 2 for axis 0, 1, 2) and its looks.
+pub const CHECKS: &[(&str, &str)] = &[
+    // W1 to W8: W3 is 9 and W7 is 8 only in the walk.
+    ("1 2 5 808 100 100 100 0 8", "S 101 101 101 0 5"),
+    ("1 2 5 801 100 100 100 0 8", "S 101 101 101 0 11"),
+    ("1 2 5 808 100 100 100 0 7", "S 101 101 101 0 5"),
+    ("1 1 1 303 100 100 100 0 3", "S 101 101 101 0 5"),
+    ("1 2 5 808 1 1 1 0 8", "R 6 2 2 2 0 2"),
+    ("0 1 1 202 100 100 100 0 8", "S 101 101 101 1 12"),
+    ("1 1 1 3 0 0 0 0 3", "S 1 1 1 0 5"),
+    ("-1 2 5 608 100 100 100 1 8", "S 99 101 101 0 5"),
+    // 1 to 8 are the pick's, in its order.
+    ("1 2 5 808 100 100 100 0 0", "R 1 0 0 0 0 0"),
+    ("1 2 5 808 100 100 100 0 257", "R 1 0 0 0 0 0"),
+    ("1001 1 1 303 -1 5 5 8 0", "R 1 0 0 0 0 0"),
+    ("1001 1 1 303 -1 5 5 8 1", "R 2 0 0 0 0 0"),
+    ("1 1 1 303 100 100 100 -1 8", "R 2 0 0 0 0 0"),
+    ("1001 1 1 303 -1 5 5 7 3", "R 3 0 0 0 0 0"),
+    ("1 1 1 4000001 5 5 5 0 3", "R 3 0 0 0 0 0"),
+    ("1000 1 1 303 -1 5 5 7 3", "R 4 -1 5 5 0 0"),
+    ("1 1 1 303 1023 5 5 0 8", "R 4 1024 6 6 0 0"),
+    ("1 1 1 303 2147483647 5 5 0 8", "R 4 2147483647 5 5 0 0"),
+    ("1 1 1 303 5 -2147483648 5 7 8", "R 4 5 -2147483648 5 0 0"),
+    ("0 0 0 0 5 5 5 0 3", "R 5 5 5 5 0 1"),
+    ("0 0 0 1 5 5 5 0 3", "R 6 6 6 6 0 2"),
+    ("0 -1 2 101 100 100 100 0 8", "R 7 101 100 101 0 15"),
+    ("1 1 1 301 100 100 100 0 1", "R 7 100 101 101 0 8"),
+    ("0 1 1 202 0 100 100 0 8", "R 8 -1 101 101 0 3"),
+    ("0 1 1 202 1020 100 100 0 8", "R 8 1025 101 101 0 8"),
+    // 9, 10 and the 8 of a round are not met: no pair is asked.
+    ("1 2 5 808 100 100 100 0 1", "S 101 101 101 0 5"),
+    ("1 1 1 303 100 100 100 0 2", "S 101 101 101 0 5"),
+    ("1 1 2 2048 511 511 511 0 256", "S 512 512 512 0 5"),
+    // One level axis: 2K looks, and the other two fall at power 1.
+    ("0 1 1 202 100 100 100 0 1", "S 101 101 101 1 6"),
+    ("1 0 1 202 100 100 100 0 8", "S 101 101 101 2 12"),
+    ("1 1 0 202 100 100 100 0 8", "S 101 101 101 4 12"),
+    ("1 0 -1 2 100 100 100 4 8", "S 101 101 99 2 12"),
+    // Two: 4K looks. Reach 1 has 2 + 5K in all, the most that a check makes.
+    ("0 0 1 101 100 100 100 0 8", "S 101 101 101 3 19"),
+    ("0 1 0 101 100 100 100 0 8", "S 101 101 101 5 19"),
+    ("1 0 0 101 100 100 100 0 8", "S 101 101 101 6 19"),
+    ("0 0 1 101 100 100 100 0 1", "S 101 101 101 3 7"),
+    ("0 0 1 512 511 511 511 0 256", "S 512 512 512 3 39"),
+    ("1 1 8 1003 100 100 100 0 7", "S 101 101 101 0 11"),
+    ("1 1 9 1101 100 100 100 0 8", "S 101 101 101 3 20"),
+];
+
+const fn handed(apex: [i64; 3], level: u32, looks: u32) -> Handed {
+    Handed { apex, level, looks }
+}
+
+/// A walk on a wedge: a line whose p is the ready start's, what else is handed, and the answer as a
+/// session would tell it.
+pub const WALKS: &[(&str, Handed, &str)] = &[
+    // W1 to W8 from what their checks hand back; that of W5 is refused.
+    ("1 2 5 808 100 100 100 0 8", handed([101; 3], 0, 5), "N 1 2 5 5 116"),
+    ("1 2 5 801 100 100 100 0 8", handed([101; 3], 0, 11), "N 1 2 5 5 144"),
+    ("1 2 5 808 100 100 100 0 7", handed([101; 3], 0, 5), "R 9 101 101 101 4 92"),
+    ("1 1 1 303 100 100 100 0 3", handed([101; 3], 0, 5), "N 1 1 1 0 23"),
+    ("0 1 1 202 100 100 100 0 8", handed([101; 3], 1, 12), "N 0 1 1 0 20"),
+    ("1 1 1 3 0 0 0 0 3", handed([1; 3], 0, 5), "R 8 -1 3 1 0 6"),
+    ("-1 2 5 608 100 100 100 1 8", handed([99, 101, 101], 0, 5), "N -1 2 5 5 116"),
+    // Looks are counted on from those handed, whatever they are, where a refusal is met too.
+    ("1 2 5 808 100 100 100 0 8", handed([101; 3], 0, 0), "N 1 2 5 5 111"),
+    ("1 2 5 808 100 100 100 0 8", handed([101; 3], 0, 26), "N 1 2 5 5 137"),
+    ("1 2 5 808 100 100 100 0 7", handed([101; 3], 0, 26), "R 9 101 101 101 4 113"),
+    ("1 1 1 303 100 100 100 0 2", handed([101; 3], 0, 14), "R 10 101 101 101 0 26"),
+    ("1 1 1 3 0 0 0 0 3", handed([1; 3], 0, 0), "R 8 -1 3 1 0 1"),
+    // 13: more than 2 + 6K of them.
+    ("1 2 5 808 100 100 100 0 8", handed([101; 3], 0, 27), "R 13 0 0 0 0 0"),
+    ("1 2 5 808 100 100 100 0 8", handed([101; 3], 0, 2147483648), "R 13 0 0 0 0 0"),
+    ("1 2 5 808 100 100 100 0 8", handed([101; 3], 0, 4294967295), "R 13 0 0 0 0 0"),
+    ("1 2 5 808 0 0 0 0 1", handed([0; 3], 5, 8), "N 0 1 0 0 8"),
+    ("1 2 5 808 0 0 0 0 1", handed([0; 3], 5, 9), "R 13 0 0 0 0 0"),
+    ("1 1 1 303 100 100 100 0 2", handed([101; 3], 0, 15), "R 13 0 0 0 0 0"),
+    ("1 1 1 303 100 100 100 0 3", handed([101; 3], 0, 20), "N 1 1 1 0 38"),
+    ("1 1 1 303 100 100 100 0 3", handed([101; 3], 0, 21), "R 13 0 0 0 0 0"),
+    ("1 1 1 303 100 100 100 0 4", handed([101; 3], 0, 21), "R 13 0 0 0 0 0"),
+    ("1 1 1 303 100 100 100 0 5", handed([101; 3], 0, 21), "N 1 1 1 0 45"),
+    ("0 0 1 512 511 511 511 0 64", handed([512; 3], 3, 44), "N 0 0 1 0 44"),
+    ("0 0 1 512 511 511 511 0 64", handed([512; 3], 3, 45), "R 13 0 0 0 0 0"),
+    ("0 0 1 512 511 511 511 0 65", handed([512; 3], 3, 50), "N 0 0 1 0 50"),
+    ("0 0 1 512 511 511 511 0 65", handed([512; 3], 3, 51), "R 13 0 0 0 0 0"),
+    ("1 1 1 1536 511 511 511 0 256", handed([512; 3], 0, 56), "N 1 1 1 0 110"),
+    ("1 1 1 1536 511 511 511 0 256", handed([512; 3], 0, 57), "R 13 0 0 0 0 0"),
+    // 13: all three level. Bits above the third say nothing.
+    ("1 2 5 808 100 100 100 0 8", handed([101; 3], 7, 5), "R 13 0 0 0 0 0"),
+    ("1 2 5 808 100 100 100 0 8", handed([101; 3], 15, 5), "R 13 0 0 0 0 0"),
+    ("1 2 5 808 100 100 100 0 8", handed([101; 3], 7, 900), "R 13 0 0 0 0 0"),
+    ("1 2 5 808 100 100 100 0 8", handed([101; 3], 4294967295, 0), "R 13 0 0 0 0 0"),
+    ("1 2 5 808 100 100 100 0 8", handed([101; 3], 8, 5), "N 1 2 5 5 116"),
+    ("1 2 5 808 100 100 100 0 8", handed([101; 3], 4294967288, 5), "N 1 2 5 5 116"),
+    ("1 2 5 808 100 100 100 0 8", handed([101; 3], 4294967289, 5), "N 0 2 5 3 28"),
+    // 1, 2, 3, 4 and 13, in this order; 4 on the handed start, else on the handed apex.
+    ("1001 2 5 808 -1 0 0 8 257", handed([1024; 3], 7, 900), "R 1 0 0 0 0 0"),
+    ("1001 2 5 808 -1 0 0 8 0", handed([1024; 3], 7, 900), "R 1 0 0 0 0 0"),
+    ("1001 2 5 808 -1 0 0 8 8", handed([1024; 3], 7, 900), "R 2 0 0 0 0 0"),
+    ("1 2 5 808 100 100 100 8 8", handed([101; 3], 7, 900), "R 2 0 0 0 0 0"),
+    ("1 2 5 808 100 100 100 -1 8", handed([101; 3], 0, 5), "R 2 0 0 0 0 0"),
+    ("1001 2 5 808 -1 0 0 7 8", handed([1024; 3], 7, 900), "R 3 0 0 0 0 0"),
+    ("1 2 5 4000001 100 100 100 0 8", handed([101; 3], 0, 5), "R 3 0 0 0 0 0"),
+    ("1000 2 5 808 -1 0 0 7 8", handed([1024; 3], 7, 900), "R 4 -1 0 0 0 0"),
+    ("1 2 5 808 -1 0 0 0 8", handed([101; 3], 0, 99), "R 4 -1 0 0 0 0"),
+    ("1 2 5 808 100 100 100 0 8", handed([101, 1024, 101], 0, 5), "R 4 101 1024 101 0 0"),
+    ("1 2 5 808 100 100 100 0 8", handed([101, 101, -1], 7, 900), "R 4 101 101 -1 0 0"),
+    (
+        "1 2 5 808 2147483647 -2147483648 5 0 8",
+        handed([101; 3], 0, 5),
+        "R 4 2147483647 -2147483648 5 0 0",
+    ),
+    (
+        "1 2 5 808 100 100 100 7 8",
+        handed([-2147483648, 101, 2147483647], 0, 5),
+        "R 4 -2147483648 101 2147483647 0 0",
+    ),
+    // p is asked no more: it may be anywhere, at a wall and empty too.
+    ("1 2 5 808 0 0 0 0 8", handed([101; 3], 0, 5), "N 1 2 5 5 116"),
+    ("1 2 5 808 1023 1023 1023 0 8", handed([101; 3], 0, 5), "N 1 2 5 5 116"),
+    ("1 2 5 2800 0 1023 0 0 8", handed([200, 300, 400], 0, 5), "N 1 2 5 5 116"),
+    // Nor is q: where it is filled all around, all six pairs fall at power 1 in every round.
+    ("1 2 5 808 100 100 100 0 8", handed([50; 3], 0, 5), "R 9 50 50 50 5 41"),
+    ("0 0 0 1 100 100 100 0 8", handed([101; 3], 0, 5), "R 9 101 101 101 5 41"),
+    ("0 0 0 1 100 100 100 0 3", handed([101; 3], 0, 5), "R 9 101 101 101 0 11"),
+    // Where it is empty all around, none falls.
+    ("1 2 5 808 100 100 100 0 8", handed([900; 3], 0, 5), "N 1 1 1 0 29"),
+    ("0 0 0 0 100 100 100 0 8", handed([101; 3], 0, 5), "N 1 1 1 0 29"),
+    ("0 0 0 0 100 100 100 0 2", handed([101; 3], 0, 5), "R 10 101 101 101 0 17"),
+    // Nor are the axes: those handed as level take no part, those not handed walk. R less the
+    // remaining axes in steps, and 10 by the normal with its zeros.
+    ("1 2 5 808 100 100 100 0 8", handed([101; 3], 1, 5), "N 0 2 5 3 28"),
+    ("1 2 5 808 100 100 100 0 8", handed([101; 3], 2, 5), "N 1 0 5 4 33"),
+    ("1 2 5 808 100 100 100 0 8", handed([101; 3], 4, 5), "N 1 2 0 1 18"),
+    ("1 2 5 808 100 100 100 0 8", handed([101; 3], 3, 5), "N 0 0 1 0 5"),
+    ("1 2 5 808 100 100 100 0 8", handed([101; 3], 5, 5), "N 0 1 0 0 5"),
+    ("1 2 5 808 100 100 100 0 8", handed([101; 3], 6, 5), "N 1 0 0 0 5"),
+    ("1 2 5 808 100 100 100 7 8", handed([101; 3], 6, 5), "N -1 0 0 0 5"),
+    ("1 2 5 808 100 100 100 0 7", handed([101; 3], 1, 5), "N 0 2 5 3 28"),
+    ("1 2 5 808 100 100 100 0 5", handed([101; 3], 1, 5), "R 10 101 101 101 3 28"),
+    ("1 2 5 808 100 100 100 0 4", handed([101; 3], 1, 5), "R 9 101 101 101 2 17"),
+    ("0 1 1 202 100 100 100 0 8", handed([101; 3], 0, 12), "R 9 101 101 101 5 120"),
+    ("0 0 1 101 100 100 100 0 1", handed([101; 3], 4, 7), "R 10 101 101 101 0 9"),
+    // 8 beside a wall, at the first look; with two level axes there is none.
+    ("1 2 5 808 100 100 100 0 8", handed([0; 3], 0, 5), "R 8 -1 1 0 0 5"),
+    ("1 2 5 808 100 100 100 7 8", handed([1023; 3], 0, 5), "R 8 1024 1022 1023 0 5"),
+    ("1 2 5 808 100 100 100 0 256", handed([0; 3], 3, 5), "N 0 0 1 0 5"),
+    // Another frame than the check's turns every way about. (The counts are the second program's.)
+    ("1 2 5 808 100 100 100 1 8", handed([101; 3], 0, 5), "R 9 101 101 101 5 101"),
+];
+
 /// A whole session and its output.
 pub const SESSIONS: &[(&[u8], &[u8])] = &[
     (b"", b""),
@@ -237,14 +389,15 @@ pub struct StackCase {
     pub told: Told,
 }
 
-/// What a pick and what a touch answers.
+/// What a pick, what a touch and what a check answers.
 pub struct Told {
     pub pick: &'static str,
     pub touch: &'static str,
+    pub check: &'static str,
 }
 
-const fn told(pick: &'static str, touch: &'static str) -> Told {
-    Told { pick, touch }
+const fn told(pick: &'static str, touch: &'static str, check: &'static str) -> Told {
+    Told { pick, touch, check }
 }
 
 const fn slope_case(slope: [i64; 4], reach: i64, told: Told) -> StackCase {
@@ -257,27 +410,61 @@ const fn few_case(only: &'static [[i64; 3]], reach: i64, told: Told) -> StackCas
 
 pub const STACKS: &[StackCase] = &[
     // Limits: a stack offers at most 64 to a pick.
-    slope_case([1, 1, 1, 384], 64, told("N 1 1 1 0 47", "G 1 1 1 0 11")),
-    slope_case([1, 1, 1, 384], 65, told("R 8 0 256 128 0 12", "G 1 1 1 0 11")),
-    slope_case([0, 0, 1, 128], 64, told("N 0 0 1 0 31", "R 11 127 128 128 0 3")),
-    slope_case([0, 0, 1, 128], 65, told("R 8 256 128 128 0 17", "R 11 127 128 128 0 3")),
+    slope_case(DIAGONAL, 64, told("N 1 1 1 0 47", "G 1 1 1 0 11", "S 128 128 128 0 5")),
+    slope_case(DIAGONAL, 65, told("R 8 0 256 128 0 12", "G 1 1 1 0 11", "S 128 128 128 0 5")),
+    slope_case(FLAT, 64, told("N 0 0 1 0 31", "R 11 127 128 128 0 3", "S 128 128 128 3 31")),
+    slope_case(
+        FLAT,
+        65,
+        told("R 8 256 128 128 0 17", "R 11 127 128 128 0 3", "R 8 256 128 128 0 17"),
+    ),
     // p alone filled; beside it the voxel opposite on axis 0; two on the other axes instead.
-    few_case(&[[3, 3, 3]], 1, told("R 7 3 4 4 0 8", "R 11 3 4 4 0 3")),
-    few_case(&[[3, 3, 3]], 2, told("R 7 3 4 4 0 14", "R 11 3 4 4 0 3")),
-    few_case(&[[3, 3, 3]], 3, told("R 8 8 4 4 0 7", "R 11 3 4 4 0 3")),
-    few_case(&[[3, 3, 3], [5, 4, 4]], 2, told("R 7 3 4 4 0 5", "R 11 3 4 4 0 3")),
-    few_case(&[[3, 3, 3], [4, 4, 3], [4, 3, 4]], 2, told("N 0 1 1 0 12", "R 11 3 4 4 0 3")),
+    few_case(&[[3, 3, 3]], 1, told("R 7 3 4 4 0 8", "R 11 3 4 4 0 3", "R 7 3 4 4 0 8")),
+    few_case(&[[3, 3, 3]], 2, told("R 7 3 4 4 0 14", "R 11 3 4 4 0 3", "R 7 3 4 4 0 14")),
+    few_case(&[[3, 3, 3]], 3, told("R 8 8 4 4 0 7", "R 11 3 4 4 0 3", "R 8 8 4 4 0 7")),
+    few_case(OPPOSITE, 2, told("R 7 3 4 4 0 5", "R 11 3 4 4 0 3", "R 7 3 4 4 0 5")),
+    few_case(CORNERS_1_2, 2, told("N 0 1 1 0 12", "R 11 3 4 4 0 3", "S 4 4 4 1 8")),
     // Two corners; all three, and the box is too small for a pick's last power.
-    few_case(&[[3, 3, 3], [3, 4, 4], [4, 4, 3]], 2, told("N 1 0 1 0 12", "R 11 4 3 4 0 4")),
-    few_case(&[[3, 3, 3], [3, 4, 4], [4, 3, 4]], 2, told("N 1 1 0 0 12", "R 11 4 4 3 0 5")),
-    few_case(CORNERS, 3, told("R 8 0 8 4 0 7", "G 1 1 1 0 11")),
-    few_case(CORNERS, 2, told("R 10 4 4 4 0 17", "R 10 4 4 4 0 11")),
+    few_case(CORNERS_0_2, 2, told("N 1 0 1 0 12", "R 11 4 3 4 0 4", "S 4 4 4 2 8")),
+    few_case(CORNERS_0_1, 2, told("N 1 1 0 0 12", "R 11 4 4 3 0 5", "S 4 4 4 4 8")),
+    few_case(CORNERS, 3, told("R 8 0 8 4 0 7", "G 1 1 1 0 11", "S 4 4 4 0 5")),
+    few_case(CORNERS, 2, told("R 10 4 4 4 0 17", "R 10 4 4 4 0 11", "S 4 4 4 0 5")),
     // A corner that is empty, while the voxel at power 2 is filled.
-    few_case(TWO_BELOW, 2, told("R 10 4 4 4 0 18", "R 11 3 4 4 0 3")),
+    few_case(TWO_BELOW, 2, told("R 10 4 4 4 0 18", "R 11 3 4 4 0 3", "S 4 4 4 0 6")),
 ];
 
-/// p and the three corners.
+/// Walks on such stacks 8 a side: the places filled, the reach, what is handed beside the start
+/// (3,3,3), and the answer.
+pub const STACK_WALKS: &[(&[[i64; 3]], i64, Handed, &str)] = &[
+    // From what the checks above hand back.
+    (CORNERS_1_2, 2, handed([4; 3], 1, 8), "N 0 1 1 0 12"),
+    (CORNERS, 3, handed([4; 3], 0, 5), "R 8 0 8 4 0 7"),
+    (CORNERS, 2, handed([4; 3], 0, 5), "R 10 4 4 4 0 17"),
+    // With other level axes; with two at any reach, since no voxel is looked at.
+    (CORNERS_1_2, 2, handed([4; 3], 2, 8), "N 1 0 1 0 12"),
+    (CORNERS, 65, handed([4; 3], 1, 12), "R 8 4 0 8 0 14"),
+    (CORNERS, 65, handed([4; 3], 3, 50), "N 0 0 1 0 50"),
+    (CORNERS, 65, handed([4; 3], 3, 51), "R 13 0 0 0 0 0"),
+    (CORNERS, 256, handed([4; 3], 6, 56), "N 1 0 0 0 56"),
+    (CORNERS, 256, handed([4; 3], 7, 56), "R 13 0 0 0 0 0"),
+    // The apex filled, by a wall, and outside this box.
+    (CORNERS, 2, handed([3; 3], 0, 5), "R 10 3 3 3 0 17"),
+    (CORNERS, 2, handed([4, 7, 4], 0, 5), "R 8 3 8 4 0 5"),
+    (CORNERS, 2, handed([4, 8, 4], 0, 5), "R 4 4 8 4 0 0"),
+];
+
+/// The slopes (1,1,1) and (0,0,1), q = (128,128,128) on their first empty level.
+const DIAGONAL: [i64; 4] = [1, 1, 1, 384];
+const FLAT: [i64; 4] = [0, 0, 1, 128];
+
+/// p and the three corners, or the corners of two axes.
 const CORNERS: &[[i64; 3]] = &[[3, 3, 3], [3, 4, 4], [4, 3, 4], [4, 4, 3]];
+const CORNERS_0_1: &[[i64; 3]] = &[[3, 3, 3], [3, 4, 4], [4, 3, 4]];
+const CORNERS_0_2: &[[i64; 3]] = &[[3, 3, 3], [3, 4, 4], [4, 4, 3]];
+const CORNERS_1_2: &[[i64; 3]] = &[[3, 3, 3], [4, 3, 4], [4, 4, 3]];
+
+/// p and the voxel one above q on axis 0.
+const OPPOSITE: &[[i64; 3]] = &[[3, 3, 3], [5, 4, 4]];
 
 /// p, the voxel two below q on axis 0, and the other two corners.
 const TWO_BELOW: &[[i64; 3]] = &[[3, 3, 3], [2, 4, 4], [4, 3, 4], [4, 4, 3]];
@@ -286,12 +473,12 @@ impl StackCase {
     pub fn stack(&self) -> (Sizes, Vec<u8>) {
         match self.filled {
             Filled::Slope(slope) => slope_stack(self.side, slope),
-            Filled::Only(places) => stack_where(self.side, |point| places.contains(&point)),
+            Filled::Only(places) => few_stack(self.side, places),
         }
     }
 }
 
-fn stack_where(side: i64, filled: impl Fn([i64; 3]) -> bool) -> (Sizes, Vec<u8>) {
+pub fn stack_where(side: i64, filled: impl Fn([i64; 3]) -> bool) -> (Sizes, Vec<u8>) {
     let sizes = Sizes { width: side, height: side, depth: side };
     let mut bytes = vec![0; sizes.stack_bytes()];
     for z in 0..side {
@@ -303,6 +490,11 @@ fn stack_where(side: i64, filled: impl Fn([i64; 3]) -> bool) -> (Sizes, Vec<u8>)
         }
     }
     (sizes, bytes)
+}
+
+/// A stack with these places filled only.
+pub fn few_stack(side: i64, places: &[[i64; 3]]) -> (Sizes, Vec<u8>) {
+    stack_where(side, |point| places.contains(&point))
 }
 
 /// The stack of a slope: filled exactly where ax + by + cz < h.

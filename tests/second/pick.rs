@@ -8,11 +8,13 @@ use crate::walk::{Record, Refusal, Remaining, Stop, Walk};
 pub type Pick = Result<Record, Refusal>;
 
 pub fn pick<S: Solid>(solid: &S, start: Point, frame: i64, reach: i64) -> Pick {
-    Walk::new(solid, start, frame, reach, powers(reach))?.answer(axes)
+    let mut walk = Walk::new(solid, start, frame, reach, powers(reach))?;
+    let remaining = walk.begin(axes)?;
+    walk.answer(&remaining)
 }
 
 /// 1, 2, 4, .. up to the first that is at least the reach.
-fn powers(reach: i64) -> Vec<i64> {
+pub fn powers(reach: i64) -> Vec<i64> {
     let mut list = vec![1];
     while list[list.len() - 1] < reach {
         list.push(2 * list[list.len() - 1]);
@@ -22,7 +24,7 @@ fn powers(reach: i64) -> Vec<i64> {
 
 /// Item 2: the axes that are not level. "7 now means that an axis's opposite falls, or (place as
 /// for axis 0) that all three are level."
-fn axes<S: Solid>(walk: &mut Walk<S>) -> Remaining {
+pub fn axes<S: Solid>(walk: &mut Walk<S>) -> Remaining {
     let mut remaining = Vec::new();
     for axis in 0..3 {
         if !level(walk, axis)? {

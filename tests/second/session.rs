@@ -2,6 +2,7 @@
 
 use crate::pick::{pick, Pick};
 use crate::point::Point;
+use crate::ready::{check, walk_from, Check, Handed, Ready};
 use crate::solid::Wedge;
 use crate::touch::{touch, Guess, Touch};
 use crate::walk::{Record, Refusal};
@@ -61,6 +62,18 @@ pub fn touch_of(nine: [i64; 9]) -> Touch {
     asked_by(nine, touch)
 }
 
+/// Nor for a check.
+pub fn check_of(nine: [i64; 9]) -> Check {
+    asked_by(nine, check)
+}
+
+/// A line's p is the ready start's.
+pub fn walk_of(nine: [i64; 9], handed: Handed) -> Pick {
+    asked_by(nine, |wedge, start, frame, reach| {
+        walk_from(wedge, Ready { start, handed }, frame, reach)
+    })
+}
+
 pub fn told(answer: Pick) -> String {
     told_as("N", answer)
 }
@@ -70,15 +83,26 @@ pub fn told_touch(answer: Touch) -> String {
     told_as("G", answer.map(|Guess(record)| record))
 }
 
+/// With "S" for a ready start: its apex, level axes and looks. (Its start is the one asked about.)
+pub fn told_check(answer: Check) -> String {
+    match answer {
+        Ok(Ready { handed: Handed { apex: [x, y, z], level, looks }, .. }) => {
+            format!("S {x} {y} {z} {level} {looks}\n")
+        }
+        Err(refusal) => told_refusal(refusal),
+    }
+}
+
 fn told_as(accepted: &str, answer: Result<Record, Refusal>) -> String {
     match answer {
         Ok(record) => {
             let [x, y, z] = record.normal;
             format!("{accepted} {x} {y} {z} {} {}\n", record.steps, record.looks)
         }
-        Err(refusal) => {
-            let [x, y, z] = refusal.place;
-            format!("R {} {x} {y} {z} {} {}\n", refusal.number, refusal.steps, refusal.looks)
-        }
+        Err(refusal) => told_refusal(refusal),
     }
+}
+
+fn told_refusal(Refusal { number, place: [x, y, z], steps, looks }: Refusal) -> String {
+    format!("R {number} {x} {y} {z} {steps} {looks}\n")
 }

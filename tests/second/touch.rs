@@ -13,7 +13,9 @@ pub type Touch = Result<Guess, Refusal>;
 
 /// "A direction falls only if power 1 is filled."
 pub fn touch<S: Solid>(solid: &S, start: Point, frame: i64, reach: i64) -> Touch {
-    Walk::new(solid, start, frame, reach, vec![1])?.answer(corners).map(Guess)
+    let mut walk = Walk::new(solid, start, frame, reach, vec![1])?;
+    let remaining = walk.begin(corners)?;
+    walk.answer(&remaining).map(Guess)
 }
 
 /// "The three corners q less each unit vector must be filled", lowest first. "The axis questions

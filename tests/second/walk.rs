@@ -1,5 +1,5 @@
 //! The probing walk, in document 01's order and with document 02's 2026-01 (level faces): what the
-//! pick and the quick touch share.
+//! pick, the quick touch, the start check and the walk from a ready start share.
 
 use crate::point::{cross, dot, lay, minus, plus, signs, times, Point, ORIGIN, UNITS};
 use crate::solid::Solid;
@@ -38,18 +38,30 @@ pub struct Walk<'a, S> {
     solid: &'a S,
     signs: Point,
     start: Point,
-    apex: Point,
+    pub apex: Point,
     reach: i64,
     powers: Vec<i64>,
     steps: u32,
-    looks: u32,
+    pub looks: u32,
 }
 
 impl<'a, S: Solid> Walk<'a, S> {
-    /// A walk that looks at these powers, unless it is refused with 1 to 4.
+    /// A walk whose apex is q = p + s.
     pub fn new(
         solid: &'a S,
         start: Point,
+        frame: i64,
+        reach: i64,
+        powers: Vec<i64>,
+    ) -> Result<Walk<'a, S>, Refusal> {
+        Walk::about(solid, start, plus(start, signs(frame)), frame, reach, powers)
+    }
+
+    /// A walk with this apex that looks at these powers, unless it is refused with 1 to 4.
+    pub fn about(
+        solid: &'a S,
+        start: Point,
+        apex: Point,
         frame: i64,
         reach: i64,
         powers: Vec<i64>,
@@ -64,45 +76,42 @@ impl<'a, S: Solid> Walk<'a, S> {
         if !solid.permitted() {
             return at_once(3, ORIGIN);
         }
-        let signs = signs(frame);
-        let apex = plus(start, signs);
         for point in [start, apex] {
             if !solid.inside(point) {
                 return at_once(4, point);
             }
         }
+        let signs = signs(frame);
         Ok(Walk { solid, signs, start, apex, reach, powers, steps: 0, looks: 0 })
     }
 
-    /// The whole walk; what is asked after q, before the rounds, is given.
-    pub fn answer(mut self, before_rounds: fn(&mut Self) -> Remaining) -> Result<Record, Refusal> {
-        let end = self.end(before_rounds);
+    /// All before the rounds; what is asked after q is given.
+    pub fn begin(&mut self, after_apex: fn(&mut Self) -> Remaining) -> Result<Vec<usize>, Refusal> {
+        let remaining = self.facing().and_then(|()| after_apex(self));
+        remaining.map_err(|stop| self.refusal(stop))
+    }
+
+    /// The rounds of these axes, and the end.
+    pub fn answer(mut self, remaining: &[usize]) -> Result<Record, Refusal> {
+        let end = self.end(remaining);
+        let (normal, triangle) = end.map_err(|stop| self.refusal(stop))?;
         let Walk { signs, apex, steps, looks, .. } = self;
-        match end {
-            Ok((normal, triangle)) => Ok(Record {
-                normal: lay(signs, normal),
-                vectors: triangle.map(|m| lay(signs, m)),
-                apex,
-                steps,
-                looks,
-            }),
-            Err(Stop { number, place }) => Err(Refusal { number, place, steps, looks }),
-        }
+        let vectors = triangle.map(|m| lay(signs, m));
+        Ok(Record { normal: lay(signs, normal), vectors, apex, steps, looks })
+    }
+
+    fn refusal(&self, Stop { number, place }: Stop) -> Refusal {
+        Refusal { number, place, steps: self.steps, looks: self.looks }
     }
 
     /// The normal and the triangle, in the frame.
-    fn end(
-        &mut self,
-        before_rounds: fn(&mut Self) -> Remaining,
-    ) -> Result<(Point, Triangle), Stop> {
-        self.begin()?;
-        let remaining = before_rounds(self)?;
-        let triangle = self.rounds(&remaining)?;
-        Ok((self.normal(triangle, &remaining)?, triangle))
+    fn end(&mut self, remaining: &[usize]) -> Result<(Point, Triangle), Stop> {
+        let triangle = self.rounds(remaining)?;
+        Ok((self.normal(triangle, remaining)?, triangle))
     }
 
     /// Item 1: p, then q.
-    fn begin(&mut self) -> Result<(), Stop> {
+    fn facing(&mut self) -> Result<(), Stop> {
         if !self.look(self.start)? {
             return Err(Stop { number: 5, place: self.start });
         }

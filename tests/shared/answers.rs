@@ -47,6 +47,24 @@ impl Touch {
 
 #[repr(C)]
 #[derive(Clone, Copy, Debug, Default, PartialEq, Eq)]
+pub struct Ready {
+    pub start: Point,
+    pub apex: Point,
+    pub level: u32,
+    pub looks: u32,
+}
+
+#[repr(C)]
+#[derive(Clone, Copy, Debug, Default, PartialEq, Eq)]
+pub struct Check {
+    pub number: u32,
+    pub place: Point,
+    pub looks: u32,
+    pub ready: Ready,
+}
+
+#[repr(C)]
+#[derive(Clone, Copy, Debug, Default, PartialEq, Eq)]
 pub struct Read {
     pub number: u32,
     pub value: u64,
