@@ -42,13 +42,13 @@ module _ (OnSlope : Vector → ℤ → Inputs → Type 0) (OnWedge : ℤ → Vec
     (onePick : (n : Vector) (t : ℤ) (i : Inputs) → OnSlope n t i → OneOf (AcceptedWith n i) (RefusedOutside i) (pickAt i))
     (twoPicks : (n : Vector) (t u : ℤ) (i j : Inputs) → OnSlope n t i → OnSlope n u j → Together i j → (a b : AcceptedPick) → pickAt i ≡ Accepted a → pickAt j ≡ Accepted b → Same a b)
     (wedgeSlope : (g : ℤ) (n : Vector) (wedge : Wedge) (p : Vector) (frame reach : ℤ) → OnWedge g n wedge p frame reach → (t : ℤ) × OnSlope n t (ofWedge wedge p frame reach)) where
-  one-call : (n : Vector) (t : ℤ) (i : Inputs) → OnSlope n t i → (r : FlatPick) → Called i r → FlatDemanded (AcceptedWith n i) i r
+  pub one-call : (n : Vector) (t : ℤ) (i : Inputs) → OnSlope n t i → (r : FlatPick) → Called i r → FlatDemanded (AcceptedWith n i) i r
   one-call n t i o r c = rw (called c) (flat (AcceptedWith n i) i (pickAt i) (onePick n t i o))
 
   accepted-call : (n : Vector) (t : ℤ) (i : Inputs) → OnSlope n t i → (r : FlatPick) → Called i r → r .number ≡ 0 → (a : AcceptedPick) × (pickAt i ≡ Accepted a)
   accepted-call n t i o r c e = accepted (AcceptedWith n i) i (pickAt i) (onePick n t i o) (sym (ap (λ (r : FlatPick). r .number) (called c)) ∙ e)
 
-  two-calls : (n : Vector) (t u : ℤ) (i j : Inputs) → OnSlope n t i → OnSlope n u j → Together i j → (a b : FlatPick) → Called i a → Called j b → a .number ≡ 0 → b .number ≡ 0 → FlatSame a b
+  pub two-calls : (n : Vector) (t u : ℤ) (i j : Inputs) → OnSlope n t i → OnSlope n u j → Together i j → (a b : FlatPick) → Called i a → Called j b → a .number ≡ 0 → b .number ≡ 0 → FlatSame a b
   two-calls n t u i j o p e a b c d f g =
       let x = accepted-call n t i o a c f in
       let y = accepted-call n u j p b d g in
