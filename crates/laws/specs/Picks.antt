@@ -19,7 +19,7 @@ use Rattle.laws.specs.Next.{sideways, NextLook, next-look}
 use Rattle.laws.specs.Axes.{AxesOf, levels-answered}
 use Rattle.laws.specs.Powers.{looks-add-up, three-most}
 use Rattle.laws.specs.PickRule.{Passed}
-use Rattle.laws.specs.Rounds.{RoundSteps, NextRound, WalkRefusal, WalkFound, roundLooks, to-the-end-says}
+use Rattle.laws.specs.Rounds.{NextRound, WalkRefusal, WalkFound, roundLooks, to-the-end-says}
 use Rattle.laws.specs.Checks.{CheckRefusal, CheckReady, CheckStopped, check-says}
 use Rattle.range.specs.Ranges.{between-naturals}
 

@@ -20,6 +20,7 @@ use Rattle.rules.specs.declared.ReadyStart.{ReadyStart}
 use Rattle.rules.specs.declared.Accepted.{Accepted as AcceptedPick}
 use Rattle.rules.specs.declared.Refused.{Refused as RefusedPick}
 use Rattle.rules.specs.declared.Pick.the-variants.{Accepted, Refused}
+use Rattle.rules.specs.declared.Check.{Check}
 use Rattle.rules.specs.declared.Check.the-variants.{Ready, Refused as CheckRefused}
 use Rattle.rules.specs.Vectors.{_⊕_, dot, lay, origin}
 use Rattle.rules.specs.Solids.{box, inBox, permitted, look}
@@ -37,6 +38,7 @@ use Rattle.laws.specs.Boxes.{outside-box}
 use Rattle.laws.specs.Next.{LevelsAnswered, NextLook}
 use Rattle.laws.specs.Axes.{levels-answered}
 use Rattle.laws.specs.Answered.{voxelsOf}
+use Rattle.laws.specs.Powers.{few-powers}
 use Rattle.laws.specs.PickParts.{walk-part}
 use Rattle.laws.specs.PickRule.{Passed}
 use Rattle.laws.specs.Rounds.{NextRound, WalkRefusal, WalkFound}
@@ -49,6 +51,7 @@ use Rattle.laws.specs.Row.{CheckTold}
 use Rattle.laws.specs.Stacks as Stacks
 use Rattle.laws.specs.Beyond as Beyond
 use Rattle.laws.specs.Theorems.{refused-number}
+use Rattle.range.specs.Ranges.{between-naturals}
 
 -- K, the number of powers, and 2 + 6K, the most looks of a check
 abbrev pub powersOf : ℤ → ℕ
@@ -56,6 +59,10 @@ powersOf reach = length (powers (natAbs reach))
 
 abbrev pub mostOf : ℤ → ℕ
 mostOf reach = 2 + 6 * powersOf reach
+
+abbrev pub checkLooks : Check → ℕ
+checkLooks (Ready d) = d .looks
+checkLooks (CheckRefused r) = r .looks
 
 -- ---- the start check
 module _ (solid : Solid) (bytes : List ℕ) (p : Vector) (frame reach : ℤ) where
@@ -88,6 +95,21 @@ module _ (solid : Solid) (bytes : List ℕ) (p : Vector) (frame reach : ℤ) whe
         notAllLevel = ready .asked .some;
         fewLooks = omega (arith, ready .few, h .2 .2);
       }
+
+  -- so at most 56 looks, ready or refused
+  pub check-looks-at-most-56 : checkLooks (checkOf solid bytes p frame reach) ≤ 56
+  check-looks-at-most-56 = go (checkOf solid bytes p frame reach) told
+    where
+      nine : natAbs reach ≤ 256 → mostOf reach ≤ 56
+      nine h = omega (arith, few-powers (natAbs reach) h)
+
+      few : (n : ℕ) → n ≤ mostOf reach → (n ≡ 0) ⊎ (natAbs reach ≤ 256) → n ≤ 56
+      few n h (inl e) = omega (arith, e)
+      few n h (inr k) = omega (arith, h, nine k)
+
+      go : (x : Check) → CheckTold solid bytes p frame reach x → checkLooks x ≤ 56
+      go (Ready d) h = let ready = h .2 .1 in omega (arith, h .2 .2, ready .few, nine (between-naturals 1 256 reach (ready .faced .passed .permittedReach) .1))
+      go (CheckRefused r) h = omega (arith, h .2, few (length (h .0)) (h .1 .few) (h .1 .small))
 
   -- its refusals are 1 to 8, so never 13, before the first step and after at most 2 + 6K looks; 8 is given at the voxel that was to be looked at next
   module _ (r : RefusedPick) (is : checkOf solid bytes p frame reach ≡ CheckRefused r) where

@@ -13,7 +13,7 @@ use Rattle.rules.specs.TwoCalls.{readyStart, checkAnswer, checkOf, isReady, rea
 use Rattle.slope.specs.Stair.{row, rows, slices, stairBytes}
 use Rattle.slope.specs.Demands.{Inputs, apexOf}
 use Rattle.slope.specs.Cases.{N, R, outcome, accepted-as, refused-as, on-wedge, on-line, on-stair}
-use Rattle.slope.specs.Rows.{walkAt, Handing, RowAccepts, RowRefuses, CheckRefuses, RowNotEmpty}
+use Rattle.slope.specs.Rows.{walkAt, Handing, RowAccepts, RowRefuses, RowNotEmpty}
 
 accepts : {n : Vector} {t : ℤ} {i : Inputs} {level : Levels} {handed steps looks : ℕ} → Handing n t i level handed → outcome (walkAt i (readyStart (i .start) (apexOf i) level handed)) ≡ N n steps looks → RowAccepts n t i level handed steps looks
 accepts {i = i} {level} {handed} h e = let a = accepted-as (walkAt i (readyStart (i .start) (apexOf i) level handed)) e in record { handing = h; answer = a .0; is = a .1; isNormal = a .2; stepsAre = a .3; looksAre = a .4 }

@@ -17,7 +17,7 @@ use Rattle.laws.specs.TwoCalls.{row}
 use Rattle.slope.specs.Demands.{Inputs, pickAt, RefusedOutside, OneOf, Same, ofWedge}
 use Rattle.slope.specs.Proved.{demand-3}
 use Rattle.slope.specs.Corollary.{base-demand-3}
-use Rattle.slope.specs.Rows.{InARow, checkRefuses, walkAnswers, WedgeRow, RowOf, wedgeRow, stackRow, RowDemand, TwoCalls}
+use Rattle.slope.specs.Rows.{InARow, checkRefuses, walkAnswers, RowOf, wedgeRow, stackRow, RowDemand, TwoCalls}
 
 -- whatever the two promise, if each is the definition's answer
 row-is : (solid : Solid) (bytes : List ℕ) (p : Vector) (frame reach : ℤ) {Checks : Check → Type 0} {Walks : ReadyStart → Pick → Type 0} → ((c : Check) → Checks c → c ≡ checkOf solid bytes p frame reach) → ((d : ReadyStart) (r : Pick) → Walks d r → r ≡ walkOf solid bytes d frame reach)
