@@ -15,7 +15,7 @@ use Rattle.rules.specs.Walk.{triangle}
 use Rattle.slope.specs.Demands.{Inputs, RefusedOutside, ofWedge, ofStack}
 use Rattle.slope.specs.Demands as Demands
 use Rattle.slope.specs.Base as Base
-use Rattle.panel.specs.declared.FlatPick.{FlatPick}
+use Rattle.flat.specs.declared.FlatPick.{FlatPick}
 use Rattle.panel.specs.Promises.{PickedWedge, PickedStack}
 
 -- a flat answer's parts, as the core names them

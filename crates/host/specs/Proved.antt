@@ -12,8 +12,8 @@ use Rattle.rules.specs.declared.Pick.the-variants.{Accepted, Refused}
 use Rattle.slope.specs.Demands.{Inputs, pickAt, RefusedOutside, OneOf, Same, ofWedge}
 use Rattle.slope.specs.Proved.{demand-3}
 use Rattle.slope.specs.Corollary.{base-demand-3}
-use Rattle.panel.specs.declared.FlatPick.{FlatPick}
-use Rattle.panel.specs.Flat.{flatPick}
+use Rattle.flat.specs.declared.FlatPick.{FlatPick}
+use Rattle.flat.specs.Flat.{flatPick}
 use Rattle.host.specs.Demands.{FlatDemanded, FlatSame, Called, wedgeCalled, stackCalled, HostDemand, HostDemand3, HostBaseDemand3}
 
 pub called : {i : Inputs} {r : FlatPick} → Called i r → r ≡ flatPick (pickAt i)

@@ -12,9 +12,9 @@ use Rattle.slope.specs.Demands.{Inputs, pickAt, OnSlope, ofWedge}
 use Rattle.slope.specs.Proved.{demand-3}
 use Rattle.slope.specs.Touches.{touchAt, OnLevel, TouchedAs}
 use Rattle.slope.specs.TouchProved.{quick-touch}
-use Rattle.panel.specs.declared.FlatPick.{FlatPick}
-use Rattle.panel.specs.declared.FlatTouch.{FlatTouch}
-use Rattle.panel.specs.Flat.{flatPick, flatTouch}
+use Rattle.flat.specs.declared.FlatPick.{FlatPick}
+use Rattle.flat.specs.declared.FlatTouch.{FlatTouch}
+use Rattle.flat.specs.Flat.{flatPick, flatTouch}
 use Rattle.host.specs.Demands.{FlatSame, Called}
 use Rattle.host.specs.Proved.{called, accepted, same-flat}
 use Rattle.host.specs.Touches.{withoutGuess, FlatTouched, Marked, TouchCalled, wedgeTouched, stackTouched, HostQuickTouch}

@@ -11,8 +11,8 @@ use Rattle.rules.specs.declared.Stack.{Stack}
 use Rattle.rules.specs.Vectors.{origin}
 use Rattle.slope.specs.Demands.{Inputs, OnSlope, ofWedge, ofStack}
 use Rattle.slope.specs.Touches.{OnLevel, OnWedgeLevel, GuessWith, TouchOutside, TouchLevel}
-use Rattle.panel.specs.declared.FlatPick.{FlatPick}
-use Rattle.panel.specs.declared.FlatTouch.{FlatTouch}
+use Rattle.flat.specs.declared.FlatPick.{FlatPick}
+use Rattle.flat.specs.declared.FlatTouch.{FlatTouch}
 use Rattle.panel.specs.Promises.{TouchedWedge, TouchedStack}
 use Rattle.host.specs.Demands.{acceptedOf, refusedOf, FlatSame, Called}
 

@@ -14,14 +14,14 @@ use Rattle.rules.specs.Touch.{touchOf}
 use Rattle.rules.specs.TwoCalls.{checkOf, walkOf}
 use Rattle.rules.specs.P4.{reading, writing, readAnswer, writeAnswer, stored}
 use Rattle.rules.specs.Display.{display}
-use Rattle.panel.specs.declared.FlatPick.{FlatPick}
-use Rattle.panel.specs.declared.FlatTouch.{FlatTouch}
-use Rattle.panel.specs.declared.FlatReady.{FlatReady}
-use Rattle.panel.specs.declared.FlatCheck.{FlatCheck}
-use Rattle.panel.specs.declared.FlatReading.{FlatReading}
-use Rattle.panel.specs.declared.FlatWriting.{FlatWriting}
-use Rattle.panel.specs.declared.FlatDisplay.{FlatDisplay}
-use Rattle.panel.specs.Flat.{flatPick, flatTouch, readyOf, flatCheck, flatReading, flatWriting, flatDisplay}
+use Rattle.flat.specs.declared.FlatPick.{FlatPick}
+use Rattle.flat.specs.declared.FlatTouch.{FlatTouch}
+use Rattle.flat.specs.declared.FlatReady.{FlatReady}
+use Rattle.flat.specs.declared.FlatCheck.{FlatCheck}
+use Rattle.flat.specs.declared.FlatReading.{FlatReading}
+use Rattle.flat.specs.declared.FlatWriting.{FlatWriting}
+use Rattle.flat.specs.declared.FlatDisplay.{FlatDisplay}
+use Rattle.flat.specs.Flat.{flatPick, flatTouch, readyOf, flatCheck, flatReading, flatWriting, flatDisplay}
 
 abbrev pub wedge : ℤ → ℤ → ℤ → ℤ → Wedge
 wedge a b c h = record { a = a; b = b; c = c; h = h }

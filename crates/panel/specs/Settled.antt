@@ -6,13 +6,13 @@ use lib.IntN.{ℤ}
 use Rattle.rules.specs.declared.Vector.{Vector}
 use Rattle.rules.specs.declared.Wedge.{Wedge}
 use Rattle.rules.specs.declared.Stack.{Stack}
-use Rattle.panel.specs.declared.FlatPick.{FlatPick}
-use Rattle.panel.specs.declared.FlatTouch.{FlatTouch}
-use Rattle.panel.specs.declared.FlatReady.{FlatReady}
-use Rattle.panel.specs.declared.FlatCheck.{FlatCheck}
-use Rattle.panel.specs.declared.FlatReading.{FlatReading}
-use Rattle.panel.specs.declared.FlatWriting.{FlatWriting}
-use Rattle.panel.specs.declared.FlatDisplay.{FlatDisplay}
+use Rattle.flat.specs.declared.FlatPick.{FlatPick}
+use Rattle.flat.specs.declared.FlatTouch.{FlatTouch}
+use Rattle.flat.specs.declared.FlatReady.{FlatReady}
+use Rattle.flat.specs.declared.FlatCheck.{FlatCheck}
+use Rattle.flat.specs.declared.FlatReading.{FlatReading}
+use Rattle.flat.specs.declared.FlatWriting.{FlatWriting}
+use Rattle.flat.specs.declared.FlatDisplay.{FlatDisplay}
 use Rattle.panel.specs.Promises.{PickedWedge, PickedStack, TouchedWedge, TouchedStack, CheckedWedge, CheckedStack, WalkedWedge, WalkedStack, ReadP4, WroteP4, Displayed}
 
 pub picked-wedge-settled : {w : Wedge} {p : Vector} {frame reach : ℤ} {a b : FlatPick} → PickedWedge w p frame reach a → PickedWedge w p frame reach b → a ≡ b

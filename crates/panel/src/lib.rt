@@ -1,273 +1,17 @@
-// The panel's C interface (include/ulgenzhir.h): thin over the core, each answer flattened by a definition of `specs/Flat.antt`.
+// The panel's C interface (include/ulgenzhir.h): thin over the core, each answer flattened (crate `flat`).
 ghost use mathlib.Core.Path.{_≡_};
-ghost use Rattle.panel.specs.Promises.{wedge, stack, PickedWedge, PickedStack, TouchedWedge, TouchedStack, CheckedWedge, CheckedStack, WalkedWedge, WalkedStack, ReadP4, WroteP4, Displayed};
 ghost use Rattle.rules.specs.Vectors.{vector};
-ghost use Rattle.panel.specs.Flat.{flatPick, withGuess, flatTouch, maskOf, levelsOf, flatReady, readyOf, flatCheck, flatDisplay, flatReading, flatWriting};
-use rules::Check;
-use rules::Display;
-use rules::Levels;
-use rules::Pick;
-use rules::Reading;
-use rules::ReadyStart;
+ghost use Rattle.panel.specs.Promises.{wedge, stack, PickedWedge, PickedStack, TouchedWedge, TouchedStack, CheckedWedge, CheckedStack, WalkedWedge, WalkedStack, ReadP4, WroteP4, Displayed};
+use flat::FlatCheck;
+use flat::FlatDisplay;
+use flat::FlatPick;
+use flat::FlatReading;
+use flat::FlatReady;
+use flat::FlatTouch;
+use flat::FlatWriting;
 use rules::Stack;
-use rules::Touch;
 use rules::Vector;
 use rules::Wedge;
-use rules::Writing;
-
-// `ulgenzhir_point` is `rules::Vector`.
-
-#[repr(C)]
-pub struct FlatPick {
-    pub number: u32,
-    pub place: Vector,
-    pub steps: u32,
-    pub looks: u32,
-    pub normal: Vector,
-    pub m0: Vector,
-    pub m1: Vector,
-    pub m2: Vector,
-    pub apex: Vector,
-}
-
-#[repr(C)]
-pub struct FlatTouch {
-    pub number: u32,
-    pub guess: u32,
-    pub place: Vector,
-    pub steps: u32,
-    pub looks: u32,
-    pub normal: Vector,
-    pub m0: Vector,
-    pub m1: Vector,
-    pub m2: Vector,
-    pub apex: Vector,
-}
-
-#[repr(C)]
-pub struct FlatReady {
-    pub start: Vector,
-    pub apex: Vector,
-    pub level: u32,
-    pub looks: u32,
-}
-
-#[repr(C)]
-pub struct FlatCheck {
-    pub number: u32,
-    pub place: Vector,
-    pub looks: u32,
-    pub ready: FlatReady,
-}
-
-#[repr(C)]
-pub struct FlatReading {
-    pub number: u32,
-    pub value: u64,
-    pub width: u32,
-    pub height: u32,
-    pub depth: u32,
-}
-
-#[repr(C)]
-pub struct FlatWriting {
-    pub number: u32,
-    pub value: u64,
-}
-
-#[repr(C)]
-pub struct FlatDisplay {
-    pub number: u32,
-    pub x: f32,
-    pub y: f32,
-    pub z: f32,
-}
-
-// ---- answers as plain numbers
-
-fn flatten_pick(answer: Pick) -> FlatPick
-    ensures { λ r. ⌜ r ≡ flatPick answer ⌝ }
-{
-    let none = Vector { x: 0, y: 0, z: 0 };
-    match answer {
-        Pick::Accepted(a) => {
-            let normal = a.normal;
-            let triangle = a.triangle;
-            let m0 = triangle.m0;
-            let m1 = triangle.m1;
-            let m2 = triangle.m2;
-            let apex = a.apex;
-            FlatPick {
-                number: 0,
-                place: none,
-                steps: a.steps,
-                looks: a.looks,
-                normal: normal,
-                m0: m0,
-                m1: m1,
-                m2: m2,
-                apex: apex,
-            }
-        }
-        Pick::Refused(r) => {
-            let place = r.place;
-            FlatPick {
-                number: r.number,
-                place: place,
-                steps: r.steps,
-                looks: r.looks,
-                normal: none,
-                m0: none,
-                m1: none,
-                m2: none,
-                apex: none,
-            }
-        }
-    }
-}
-
-fn with_guess(guess: u32, answer: FlatPick) -> FlatTouch
-    ensures { λ r. ⌜ r ≡ withGuess guess answer ⌝ }
-{
-    let place = answer.place;
-    let normal = answer.normal;
-    let m0 = answer.m0;
-    let m1 = answer.m1;
-    let m2 = answer.m2;
-    let apex = answer.apex;
-    FlatTouch {
-        number: answer.number,
-        guess: guess,
-        place: place,
-        steps: answer.steps,
-        looks: answer.looks,
-        normal: normal,
-        m0: m0,
-        m1: m1,
-        m2: m2,
-        apex: apex,
-    }
-}
-
-fn flatten_touch(answer: Touch) -> FlatTouch
-    ensures { λ r. ⌜ r ≡ flatTouch answer ⌝ }
-{
-    match answer {
-        Touch::Guess(a) => with_guess(1, flatten_pick(Pick::Accepted(a))),
-        Touch::Refused(r) => with_guess(0, flatten_pick(Pick::Refused(r))),
-    }
-}
-
-// Bit 0, 1, 2: axis 0, 1, 2 is level.
-fn mask_of(level: Levels) -> u32
-    ensures { λ r. ⌜ r ≡ maskOf level ⌝ }
-{
-    let x = level.x as u32;
-    let y = level.y as u32;
-    let z = level.z as u32;
-    x + 2 * y + 4 * z
-}
-
-fn flatten_ready(d: ReadyStart) -> FlatReady
-    ensures { λ r. ⌜ r ≡ flatReady d ⌝ }
-{
-    let p = d.start;
-    let q = d.apex;
-    let mask = mask_of(d.level);
-    FlatReady {
-        start: p,
-        apex: q,
-        level: mask,
-        looks: d.looks,
-    }
-}
-
-fn flatten_check(answer: Check) -> FlatCheck
-    ensures { λ r. ⌜ r ≡ flatCheck answer ⌝ }
-{
-    let none = Vector { x: 0, y: 0, z: 0 };
-    match answer {
-        Check::Ready(d) => {
-            let ready = flatten_ready(d);
-            FlatCheck {
-                number: 0,
-                place: none,
-                looks: d.looks,
-                ready: ready,
-            }
-        }
-        Check::Refused(r) => {
-            let place = r.place;
-            let ready = FlatReady {
-                start: none,
-                apex: none,
-                level: 0,
-                looks: 0,
-            };
-            FlatCheck {
-                number: r.number,
-                place: place,
-                looks: r.looks,
-                ready: ready,
-            }
-        }
-    }
-}
-
-fn flatten_reading(answer: Reading) -> FlatReading
-    ensures { λ r. ⌜ r ≡ flatReading answer ⌝ }
-{
-    match answer {
-        Reading::Read(k) => FlatReading {
-            number: 0,
-            value: 0,
-            width: size::size_of(k.width),
-            height: size::size_of(k.height),
-            depth: size::size_of(k.depth),
-        },
-        Reading::Unread(number, n) => FlatReading {
-            number: number,
-            value: n as u64,
-            width: 0,
-            height: 0,
-            depth: 0,
-        },
-    }
-}
-
-fn flatten_writing(answer: Writing) -> FlatWriting
-    ensures { λ r. ⌜ r ≡ flatWriting answer ⌝ }
-{
-    match answer {
-        Writing::Written(n) => FlatWriting {
-            number: 0,
-            value: n as u64,
-        },
-        Writing::Unwritten(number, n) => FlatWriting {
-            number: number,
-            value: n as u64,
-        },
-    }
-}
-
-fn flatten_display(answer: Display) -> FlatDisplay
-    ensures { λ r. ⌜ r ≡ flatDisplay answer ⌝ }
-{
-    match answer {
-        Display::Lit(l) => FlatDisplay {
-            number: 0,
-            x: l.x,
-            y: l.y,
-            z: l.z,
-        },
-        Display::Unlit(n) => FlatDisplay {
-            number: n,
-            x: 0.0,
-            y: 0.0,
-            z: 0.0,
-        },
-    }
-}
 
 // ---- plain numbers as the core has them
 
@@ -298,30 +42,6 @@ fn point(x: i32, y: i32, z: i32) -> Vector
     Vector { x: x, y: y, z: z }
 }
 
-// Higher bits are not looked at.
-fn levels_of(mask: u32) -> Levels
-    ensures { λ r. ⌜ r ≡ levelsOf mask ⌝ }
-{
-    let x = mask % 2 == 1;
-    let y = mask / 2 % 2 == 1;
-    let z = mask / 4 % 2 == 1;
-    Levels { x: x, y: y, z: z }
-}
-
-fn ready_of(ready: FlatReady) -> ReadyStart
-    ensures { λ r. ⌜ r ≡ readyOf ready ⌝ }
-{
-    let p = ready.start;
-    let q = ready.apex;
-    let level = levels_of(ready.level);
-    ReadyStart {
-        start: p,
-        apex: q,
-        level: level,
-        looks: ready.looks,
-    }
-}
-
 // ---- the interface
 
 #[no_mangle]
@@ -340,7 +60,7 @@ pub extern "C" fn ulgenzhir_pick_wedge(
 {
     let w = wedge_of(a, b, c, h);
     let p = point(px, py, pz);
-    flatten_pick(pick::pick_wedge(w, p, frame, reach))
+    flat::flatten_pick(pick::pick_wedge(w, p, frame, reach))
 }
 
 #[no_mangle]
@@ -359,7 +79,7 @@ pub extern "C" fn ulgenzhir_pick_stack(
 {
     let k = stack_of(width, height, depth);
     let p = point(px, py, pz);
-    flatten_pick(pick::pick_stack(k, bytes, p, frame, reach))
+    flat::flatten_pick(pick::pick_stack(k, bytes, p, frame, reach))
 }
 
 #[no_mangle]
@@ -378,7 +98,7 @@ pub extern "C" fn ulgenzhir_touch_wedge(
 {
     let w = wedge_of(a, b, c, h);
     let p = point(px, py, pz);
-    flatten_touch(pick::touch_wedge(w, p, frame, reach))
+    flat::flatten_touch(pick::touch_wedge(w, p, frame, reach))
 }
 
 #[no_mangle]
@@ -397,7 +117,7 @@ pub extern "C" fn ulgenzhir_touch_stack(
 {
     let k = stack_of(width, height, depth);
     let p = point(px, py, pz);
-    flatten_touch(pick::touch_stack(k, bytes, p, frame, reach))
+    flat::flatten_touch(pick::touch_stack(k, bytes, p, frame, reach))
 }
 
 #[no_mangle]
@@ -416,7 +136,7 @@ pub extern "C" fn ulgenzhir_check_wedge(
 {
     let w = wedge_of(a, b, c, h);
     let p = point(px, py, pz);
-    flatten_check(pick::check_wedge(w, p, frame, reach))
+    flat::flatten_check(pick::check_wedge(w, p, frame, reach))
 }
 
 #[no_mangle]
@@ -435,7 +155,7 @@ pub extern "C" fn ulgenzhir_check_stack(
 {
     let k = stack_of(width, height, depth);
     let p = point(px, py, pz);
-    flatten_check(pick::check_stack(k, bytes, p, frame, reach))
+    flat::flatten_check(pick::check_stack(k, bytes, p, frame, reach))
 }
 
 #[no_mangle]
@@ -451,8 +171,8 @@ pub extern "C" fn ulgenzhir_walk_wedge(
     ensures { λ r. ⌜ WalkedWedge (wedge a b c h) ready frame reach r ⌝ }
 {
     let w = wedge_of(a, b, c, h);
-    let d = ready_of(ready);
-    flatten_pick(pick::walk_wedge(w, d, frame, reach))
+    let d = flat::ready_of(ready);
+    flat::flatten_pick(pick::walk_wedge(w, d, frame, reach))
 }
 
 #[no_mangle]
@@ -468,15 +188,15 @@ pub extern "C" fn ulgenzhir_walk_stack(
     ensures { λ r. ⌜ WalkedStack (stack width height depth) (now (bytes .entry)) ready frame reach r ⌝ }
 {
     let k = stack_of(width, height, depth);
-    let d = ready_of(ready);
-    flatten_pick(pick::walk_stack(k, bytes, d, frame, reach))
+    let d = flat::ready_of(ready);
+    flat::flatten_pick(pick::walk_stack(k, bytes, d, frame, reach))
 }
 
 #[no_mangle]
 pub extern "C" fn ulgenzhir_read_p4(src: &[u8], rows: &mut [u8]) -> FlatReading
     ensures { λ r. ⌜ ReadP4 (now (src .entry)) (now (rows .entry)) (now (rows .exit)) r ⌝ }
 {
-    flatten_reading(p4_read::read(src, rows))
+    flat::flatten_reading(p4_read::read(src, rows))
 }
 
 #[no_mangle]
@@ -490,12 +210,12 @@ pub extern "C" fn ulgenzhir_write_p4(
     ensures { λ r. ⌜ WroteP4 (stack width height depth) (now (bytes .entry)) (now (out .entry)) (now (out .exit)) r ⌝ }
 {
     let k = stack_of(width, height, depth);
-    flatten_writing(p4_write::write(k, bytes, out))
+    flat::flatten_writing(p4_write::write(k, bytes, out))
 }
 
 #[no_mangle]
 pub extern "C" fn ulgenzhir_display(nx: i32, ny: i32, nz: i32) -> FlatDisplay
     ensures { λ r. ⌜ Displayed nx ny nz r ⌝ }
 {
-    flatten_display(display::display_normal(nx, ny, nz))
+    flat::flatten_display(display::display_normal(nx, ny, nz))
 }

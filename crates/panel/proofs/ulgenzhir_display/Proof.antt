@@ -2,7 +2,7 @@
 use mathlib.Core.Path.{ap, _∙_}
 use borrow.Author.Needs.{needs}
 use mir.Facts.{toZ-ofZ}
-use Rattle.panel.specs.Flat.{flatDisplay}
+use Rattle.flat.specs.Flat.{flatDisplay}
 use Rattle.panel.proofs.ulgenzhir_display.Statement.{statement}
 use Rattle.panel.proofs.ulgenzhir_display.Tie as tie
 

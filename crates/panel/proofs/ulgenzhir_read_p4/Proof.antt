@@ -1,7 +1,7 @@
 -- What `read` promises of its answer and of the buffer, with the answer flattened.
 use mathlib.Core.Path.{ap, _∙_}
 use borrow.Author.Needs.{needs}
-use Rattle.panel.specs.Flat.{flatReading}
+use Rattle.flat.specs.Flat.{flatReading}
 use Rattle.panel.proofs.ulgenzhir_read_p4.Statement.{statement}
 use Rattle.panel.proofs.ulgenzhir_read_p4.Tie as tie
 

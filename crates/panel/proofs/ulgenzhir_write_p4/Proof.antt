@@ -2,7 +2,7 @@
 use mathlib.Core.Path.{ap, _∙_}
 use borrow.Author.Needs.{needs}
 use mir.Facts.{toZ-ofZ}
-use Rattle.panel.specs.Flat.{flatWriting}
+use Rattle.flat.specs.Flat.{flatWriting}
 use Rattle.panel.proofs.ulgenzhir_write_p4.Statement.{statement}
 use Rattle.panel.proofs.ulgenzhir_write_p4.Tie as tie
 

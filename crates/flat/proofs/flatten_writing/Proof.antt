@@ -1,9 +1,9 @@
 -- `flatten_writing` writes out the two cases of `flatWriting`.
 use mathlib.Core.Path.{sym, ap}
 use borrow.Author.Needs.{needs}
-use Rattle.panel.specs.Flat.{flatWriting}
-use Rattle.panel.proofs.flatten_writing.Statement.{statement}
-use Rattle.panel.proofs.flatten_writing.Tie as tie
+use Rattle.flat.specs.Flat.{flatWriting}
+use Rattle.flat.proofs.flatten_writing.Statement.{statement}
+use Rattle.flat.proofs.flatten_writing.Tie as tie
 
 returns : tie.Need-returns
 returns c = ap flatWriting (sym (c .before .answer .given .1))

@@ -1,7 +1,7 @@
 -- `flatten_ready` writes out `flatReady`.
 use borrow.Author.Needs.{needs}
-use Rattle.panel.proofs.flatten_ready.Statement.{statement}
-use Rattle.panel.proofs.flatten_ready.Tie as tie
+use Rattle.flat.proofs.flatten_ready.Statement.{statement}
+use Rattle.flat.proofs.flatten_ready.Tie as tie
 
 returns : tie.Need-returns
 returns c = rw (c .mask-of .ensures)

@@ -20,13 +20,13 @@ use Rattle.rules.specs.declared.Writing.{Writing}
 use Rattle.rules.specs.declared.Writing.the-variants.{Written, Unwritten}
 use Rattle.rules.specs.Vectors.{origin}
 use Rattle.rules.specs.Walk.{levels}
-use Rattle.panel.specs.declared.FlatPick.{FlatPick}
-use Rattle.panel.specs.declared.FlatTouch.{FlatTouch}
-use Rattle.panel.specs.declared.FlatReady.{FlatReady}
-use Rattle.panel.specs.declared.FlatCheck.{FlatCheck}
-use Rattle.panel.specs.declared.FlatReading.{FlatReading}
-use Rattle.panel.specs.declared.FlatWriting.{FlatWriting}
-use Rattle.panel.specs.declared.FlatDisplay.{FlatDisplay}
+use Rattle.flat.specs.declared.FlatPick.{FlatPick}
+use Rattle.flat.specs.declared.FlatTouch.{FlatTouch}
+use Rattle.flat.specs.declared.FlatReady.{FlatReady}
+use Rattle.flat.specs.declared.FlatCheck.{FlatCheck}
+use Rattle.flat.specs.declared.FlatReading.{FlatReading}
+use Rattle.flat.specs.declared.FlatWriting.{FlatWriting}
+use Rattle.flat.specs.declared.FlatDisplay.{FlatDisplay}
 
 -- number 0: accepted, place 0 0 0. Refused: normal, m0, m1, m2, apex all zero
 abbrev pub flatPick : Pick → FlatPick

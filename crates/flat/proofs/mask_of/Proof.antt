@@ -5,9 +5,9 @@ use native.Mathlib.Omega.{arith}
 use lib.Dec.{lit≤}
 use borrow.Author.Needs.{needs}
 use Rattle.rules.specs.declared.Levels.{Levels}
-use Rattle.panel.specs.Flat.{bit, maskOf}
-use Rattle.panel.proofs.mask_of.Statement.{statement}
-use Rattle.panel.proofs.mask_of.Tie as tie
+use Rattle.flat.specs.Flat.{bit, maskOf}
+use Rattle.flat.proofs.mask_of.Statement.{statement}
+use Rattle.flat.proofs.mask_of.Tie as tie
 
 at-most-one : (b : Bool) → bit b ≤ 1
 at-most-one true = lit≤ tt

@@ -1,7 +1,7 @@
 -- `ready_of` writes out `readyOf`.
 use borrow.Author.Needs.{needs}
-use Rattle.panel.proofs.ready_of.Statement.{statement}
-use Rattle.panel.proofs.ready_of.Tie as tie
+use Rattle.flat.proofs.ready_of.Statement.{statement}
+use Rattle.flat.proofs.ready_of.Tie as tie
 
 returns : tie.Need-returns
 returns c = rw (c .levels-of .ensures)

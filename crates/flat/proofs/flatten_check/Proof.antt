@@ -1,9 +1,9 @@
 -- `flatten_check` writes out the two cases of `flatCheck`.
 use mathlib.Core.Path.{sym, ap}
 use borrow.Author.Needs.{needs}
-use Rattle.panel.specs.Flat.{flatCheck}
-use Rattle.panel.proofs.flatten_check.Statement.{statement}
-use Rattle.panel.proofs.flatten_check.Tie as tie
+use Rattle.flat.specs.Flat.{flatCheck}
+use Rattle.flat.proofs.flatten_check.Statement.{statement}
+use Rattle.flat.proofs.flatten_check.Tie as tie
 
 ready : tie.Need-returns
 ready c = rw (c .flatten-ready .ensures) (ap flatCheck (sym (c .before .before .answer .given .1)))

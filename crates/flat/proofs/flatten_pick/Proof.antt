@@ -1,9 +1,9 @@
 -- `flatten_pick` writes out the two cases of `flatPick`.
 use mathlib.Core.Path.{sym, ap}
 use borrow.Author.Needs.{needs}
-use Rattle.panel.specs.Flat.{flatPick}
-use Rattle.panel.proofs.flatten_pick.Statement.{statement}
-use Rattle.panel.proofs.flatten_pick.Tie as tie
+use Rattle.flat.specs.Flat.{flatPick}
+use Rattle.flat.proofs.flatten_pick.Statement.{statement}
+use Rattle.flat.proofs.flatten_pick.Tie as tie
 
 returns : tie.Need-returns
 returns c = ap flatPick (sym (c .before .before .before .before .before .before .before .answer .given .1))

@@ -1,10 +1,10 @@
 -- `flatten_touch` writes out the two cases of `flatTouch`, each with its mark.
 use mathlib.Core.Path.{sym, ap, _∙_}
 use borrow.Author.Needs.{needs}
-use Rattle.panel.specs.declared.FlatPick.{FlatPick}
-use Rattle.panel.specs.Flat.{withGuess, flatTouch}
-use Rattle.panel.proofs.flatten_touch.Statement.{statement}
-use Rattle.panel.proofs.flatten_touch.Tie as tie
+use Rattle.flat.specs.declared.FlatPick.{FlatPick}
+use Rattle.flat.specs.Flat.{withGuess, flatTouch}
+use Rattle.flat.proofs.flatten_touch.Statement.{statement}
+use Rattle.flat.proofs.flatten_touch.Tie as tie
 
 guessed : tie.Need-returns
 guessed c = c .with-guess .ensures ∙ ap (λ (r : FlatPick). withGuess 1 r) (c .before .flatten-pick .ensures) ∙ ap flatTouch (sym (c .before .before .before .answer .given .1))

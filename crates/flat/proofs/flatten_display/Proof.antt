@@ -2,9 +2,9 @@
 use mathlib.Core.Path.{sym, ap}
 use borrow.Author.Needs.{needs}
 use lib.Ieee.{ofBits}
-use Rattle.panel.specs.Flat.{flatDisplay}
-use Rattle.panel.proofs.flatten_display.Statement.{statement}
-use Rattle.panel.proofs.flatten_display.Tie as tie
+use Rattle.flat.specs.Flat.{flatDisplay}
+use Rattle.flat.proofs.flatten_display.Statement.{statement}
+use Rattle.flat.proofs.flatten_display.Tie as tie
 
 returns : tie.Need-returns
 returns c = ap flatDisplay (sym (c .before .answer .given .1))

@@ -3,9 +3,9 @@ use mathlib.Core.Path.{sym, ap}
 use mir.Syntax.{w32}
 use Rattle.integers.specs.Machine.{back}
 use borrow.Author.Needs.{needs}
-use Rattle.panel.specs.Flat.{flatReading}
-use Rattle.panel.proofs.flatten_reading.Statement.{statement}
-use Rattle.panel.proofs.flatten_reading.Tie as tie
+use Rattle.flat.specs.Flat.{flatReading}
+use Rattle.flat.proofs.flatten_reading.Statement.{statement}
+use Rattle.flat.proofs.flatten_reading.Tie as tie
 
 returns : tie.Need-returns
 returns c =

@@ -5,7 +5,7 @@ use Rattle.rules.specs.declared.Levels.{Levels}
 use Rattle.rules.specs.declared.ReadyStart.{ReadyStart}
 use Rattle.rules.specs.Walk.{levels}
 use Rattle.rules.specs.TwoCalls.{readyStart}
-use Rattle.panel.specs.Flat.{maskOf, levelsOf, flatReady, readyOf}
+use Rattle.flat.specs.Flat.{maskOf, levelsOf, flatReady, readyOf}
 
 levels-back : (x y z : Bool) → levelsOf (maskOf (levels x y z)) ≡ levels x y z
 levels-back true true true = refl
