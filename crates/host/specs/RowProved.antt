@@ -20,11 +20,11 @@ use Rattle.slope.specs.Demands.{Inputs, pickAt, RefusedOutside, OneOf, Same, of
 use Rattle.slope.specs.Proved.{demand-3}
 use Rattle.slope.specs.Corollary.{base-demand-3}
 use Rattle.slope.specs.Rows.{checkAt}
-use Rattle.panel.specs.declared.FlatPick.{FlatPick}
-use Rattle.panel.specs.declared.FlatReady.{FlatReady}
-use Rattle.panel.specs.declared.FlatCheck.{FlatCheck}
-use Rattle.panel.specs.Flat.{flatPick, flatCheck, readyOf}
-use Rattle.panel.specs.Handed.{ready-back}
+use Rattle.flat.specs.declared.FlatPick.{FlatPick}
+use Rattle.flat.specs.declared.FlatReady.{FlatReady}
+use Rattle.flat.specs.declared.FlatCheck.{FlatCheck}
+use Rattle.flat.specs.Flat.{flatPick, flatCheck, readyOf}
+use Rattle.flat.specs.Handed.{ready-back}
 use Rattle.host.specs.Demands.{Called, wedgeCalled, stackCalled}
 use Rattle.host.specs.Proved.{called, one-call, two-calls}
 use Rattle.host.specs.Rows.{refusalOf, FlatRow, checkRefuses, walkAnswers, RowCalled, wedgeRow, stackRow, CheckCalled, wedgeChecked, stackChecked, Lit, NotLit, HostRowDemand, HostTwoCalls}

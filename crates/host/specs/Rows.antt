@@ -13,10 +13,10 @@ use Rattle.rules.specs.Vectors.{origin}
 use Rattle.slope.specs.Demands.{Inputs, ofWedge, ofStack}
 use Rattle.slope.specs.Demands as Demands
 use Rattle.slope.specs.Base as Base
-use Rattle.panel.specs.declared.FlatPick.{FlatPick}
-use Rattle.panel.specs.declared.FlatReady.{FlatReady}
-use Rattle.panel.specs.declared.FlatCheck.{FlatCheck}
-use Rattle.panel.specs.Flat.{noReady}
+use Rattle.flat.specs.declared.FlatPick.{FlatPick}
+use Rattle.flat.specs.declared.FlatReady.{FlatReady}
+use Rattle.flat.specs.declared.FlatCheck.{FlatCheck}
+use Rattle.flat.specs.Flat.{noReady}
 use Rattle.panel.specs.Promises.{PickedWedge, PickedStack, CheckedWedge, CheckedStack, WalkedWedge, WalkedStack}
 use Rattle.host.specs.Demands.{FlatDemanded, FlatSame}
 
