@@ -10,7 +10,6 @@ use mir.Syntax.{w32}
 use mir.Val.{SFits, toZ, ofZ}
 use mir.Facts.{toZ-ofZ}
 use Rattle.rules.specs.declared.Vector.{Vector}
-use Rattle.rules.specs.declared.Look.{Look}
 use Rattle.rules.specs.declared.Solid.{Solid}
 use Rattle.rules.specs.declared.Levels.{Levels}
 use Rattle.rules.specs.declared.ReadyStart.{ReadyStart}
@@ -19,11 +18,11 @@ use Rattle.rules.specs.declared.Check.the-variants.{Ready as CheckReady, Refuse
 use Rattle.rules.specs.declared.Pick.{Pick as PickAnswer}
 use Rattle.rules.specs.declared.Pick.the-variants.{Refused as IsRefused}
 use Rattle.rules.specs.declared.Refused.{Refused}
-use Rattle.rules.specs.Vectors.{_⊕_, origin}
+use Rattle.rules.specs.Vectors.{origin}
 use Rattle.rules.specs.Solids.{permitted, look}
-use Rattle.rules.specs.Asked.{Asked as Question, answered, refused, _>>=_, _>>_}
-use Rattle.rules.specs.Walk.{Stop, stop, signs, powersFrom, powers, Probe, atPowers, Found, toTheEnd}
-use Rattle.rules.specs.Pick.{probe, judging, check, pick, refusedAnswer}
+use Rattle.rules.specs.Asked.{Asked as Question, answered, refused, _>>=_}
+use Rattle.rules.specs.Walk.{Stop, stop, powersFrom, powers, Probe, atPowers, Found, toTheEnd}
+use Rattle.rules.specs.Pick.{probe, check, pick, refusedAnswer}
 use Rattle.rules.specs.Touch.{nearer, touch}
 use Rattle.rules.specs.TwoCalls.{readyStart, checkAnswer, checkOf, isReady, handed, readiness, walkOn, answerFrom, walkAnswer, walkOf}
 use Rattle.laws.specs.Answers.{stopOf}
@@ -38,14 +37,14 @@ use Rattle.inputs.specs.declared.Begin.{Begin}
 use Rattle.inputs.specs.declared.Begin.the-variants.{Asked, Handed}
 use Rattle.inputs.specs.declared.Fit.{Fit}
 use Rattle.inputs.specs.declared.Fit.the-variants.{Scene as FitScene, Refused as FitRefused}
-use Rattle.inputs.specs.Inputs.{apexOf, sceneOf, judgingOf, InputsJudged}
+use Rattle.inputs.specs.Inputs.{sceneOf, judgingOf, InputsJudged}
 use Rattle.inputs.specs.Facts.{judged-read, inputs-refused, refused-unlooked, inputs-good, scene-is, scene-ready}
 use Rattle.ready.specs.Facts.{ready-few}
 use Rattle.end.specs.Answers.{is-answer, answer-onward}
 use Rattle.pick.specs.declared.Call.{Call}
 use Rattle.pick.specs.declared.Call.the-variants.{Pick, Touch, Check, Walk}
 use Rattle.pick.specs.declared.Outcome.{Outcome}
-use Rattle.pick.specs.declared.Outcome.the-variants.{Ready, Ended}
+use Rattle.pick.specs.declared.Outcome.the-variants.{Ended}
 use Rattle.pick.specs.Calls.{beginOf, readied, readiedAs, RoundsBegun, endOf, walkAt, checked, outcomeOf, CallMade, EndsPick, EndsCheck}
 
 -- ---- what may be taken for granted: the looks can be counted on

@@ -9,7 +9,6 @@ use Rattle.rules.specs.declared.Vector.{Vector}
 use Rattle.rules.specs.declared.Look.{Look}
 use Rattle.rules.specs.declared.Solid.{Solid}
 use Rattle.rules.specs.declared.Levels.{Levels}
-use Rattle.rules.specs.declared.Pick.{Pick as PickAnswer}
 use Rattle.rules.specs.declared.Pick.the-variants.{Accepted, Refused}
 use Rattle.rules.specs.declared.ReadyStart.{ReadyStart}
 use Rattle.rules.specs.declared.Check.{Check as CheckAnswer}

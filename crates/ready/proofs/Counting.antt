@@ -1,6 +1,5 @@
 -- The powers, counted one by one: before each test the power l is the last of n.
-use mathlib.Core.Path.{_≡_, refl, ap}
-use mathlib.Core.List.{_∷_, []}
+use mathlib.Core.Path.{_≡_, refl}
 use Prim.Native.Nat.{ℕ, zero, suc, _+_, _≤_, _<_}
 use native.Mathlib.Omega.{arith}
 use lib.Dec.{lit<, lit≤}
