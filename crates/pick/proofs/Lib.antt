@@ -1,2 +1,2 @@
--- The answer, part by part.
+-- What a call comes to, as the answer of its entry point.
 pub mod Answers

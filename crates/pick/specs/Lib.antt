@@ -1,4 +1,3 @@
 -- What the pick, the quick touch, the start check and the walk from a ready start promise.
-pub mod Calls
 pub mod Promises
 pub mod Excluded

@@ -1,7 +1,7 @@
 -- `pick::as_check` meets its contract: the outcome is no accepted pick.
 use mathlib.Core.Path.{ap, _∙_}
 use borrow.Author.Needs.{needs}
-use Rattle.pick.specs.declared.Outcome.the-variants.{Ended}
+use Rattle.call.specs.declared.Outcome.the-variants.{Ended}
 use Rattle.pick.proofs.as_check.Statement.{statement}
 use Rattle.pick.proofs.as_check.Tie as tie
 

@@ -1,9 +1,9 @@
--- `pick::begin_of` meets its contract: call by call.
+-- `call::begin_of` meets its contract: call by call.
 use mathlib.Core.Path.{sym, ap}
 use borrow.Author.Needs.{needs}
-use Rattle.pick.specs.Calls.{beginOf}
-use Rattle.pick.proofs.begin_of.Statement.{statement}
-use Rattle.pick.proofs.begin_of.Tie as tie
+use Rattle.call.specs.Calls.{beginOf}
+use Rattle.call.proofs.begin_of.Statement.{statement}
+use Rattle.call.proofs.begin_of.Tie as tie
 
 of-pick : tie.Need-returns
 of-pick c = ap beginOf (sym (c .before .call .given .1))

@@ -1,4 +1,4 @@
--- `pick::end_call` meets its contract: by whether the call is a check, which is variant 2 of the four.
+-- `call::end_call` meets its contract: by whether the call is a check, which is variant 2 of the four.
 use mathlib.Core.Path.{_≡_, refl, ap, _∙_}
 use mathlib.Core.Logic.{inl, inr}
 use mathlib.Core.List.{List, [], _∷_}
@@ -10,13 +10,13 @@ use borrow.Author.Needs.{needs}
 use Rattle.rules.specs.declared.Levels.{Levels}
 use Rattle.falls.specs.declared.Scene.{Scene}
 use Rattle.end.specs.Answers.{is-answer-from}
-use Rattle.pick.specs.declared.Call.{Call}
-use Rattle.pick.specs.declared.Call.the-variants.{Pick, Touch, Check, Walk}
-use Rattle.pick.specs.declared.Outcome.the-variants.{Ended}
-use Rattle.pick.specs.Calls.{walkEnd, endOf}
-use Rattle.pick.proofs.Call.{the-type}
-use Rattle.pick.proofs.end_call.Statement.{statement}
-use Rattle.pick.proofs.end_call.Tie as tie
+use Rattle.call.specs.declared.Call.{Call}
+use Rattle.call.specs.declared.Call.the-variants.{Pick, Touch, Check, Walk}
+use Rattle.call.specs.declared.Outcome.the-variants.{Ended}
+use Rattle.call.specs.Calls.{walkEnd, endOf}
+use Rattle.call.proofs.Call.{the-type}
+use Rattle.call.proofs.end_call.Statement.{statement}
+use Rattle.call.proofs.end_call.Tie as tie
 
 others-walk : (call : Call) (v : Scene) (bytes : List ℕ) (level : Levels) (n : ℕ) → OneOf (0 ∷ 1 ∷ 3 ∷ []) (tagOf the-type call) → walkEnd v bytes level n ≡ endOf call v bytes level n
 others-walk (Pick p) v bytes level n k = refl

@@ -1,8 +1,8 @@
--- `pick::make_call` meets its contract: by how far it came, through the inputs, the start, or to its end.
+-- `call::make_call` meets its contract: by how far it came, through the inputs, the start, or to its end.
 use borrow.Author.Needs.{needs}
-use Rattle.pick.proofs.Answers.{granted, made}
-use Rattle.pick.proofs.make_call.Statement.{statement}
-use Rattle.pick.proofs.make_call.Tie as tie
+use Rattle.call.proofs.Answers.{granted, made}
+use Rattle.call.proofs.make_call.Statement.{statement}
+use Rattle.call.proofs.make_call.Tie as tie
 
 pub make-call-spec : {M : Type 1} → statement M
 make-call-spec =

@@ -28,10 +28,10 @@ use Rattle.start.specs.declared.Start.the-variants.{Begun, Refused as StartRefu
 use Rattle.start.specs.Start.{Started}
 use Rattle.inputs.specs.declared.Begin.{Begin}
 use Rattle.inputs.specs.declared.Begin.the-variants.{Asked, Handed}
-use Rattle.pick.specs.declared.Call.{Call}
-use Rattle.pick.specs.declared.Call.the-variants.{Pick, Touch, Check, Walk}
-use Rattle.pick.specs.declared.Outcome.{Outcome}
-use Rattle.pick.specs.declared.Outcome.the-variants.{Ready, Ended}
+use Rattle.call.specs.declared.Call.{Call}
+use Rattle.call.specs.declared.Call.the-variants.{Pick, Touch, Check, Walk}
+use Rattle.call.specs.declared.Outcome.{Outcome}
+use Rattle.call.specs.declared.Outcome.the-variants.{Ready, Ended}
 
 -- ---- where the rounds begin
 abbrev pub beginOf : Call → Begin

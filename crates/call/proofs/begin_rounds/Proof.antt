@@ -1,8 +1,8 @@
--- `pick::begin_rounds` meets its contract: by whether the start is asked or handed.
+-- `call::begin_rounds` meets its contract: by whether the start is asked or handed.
 use borrow.Author.Needs.{needs}
-use Rattle.pick.proofs.Answers.{beginning, reach-high}
-use Rattle.pick.proofs.begin_rounds.Statement.{statement}
-use Rattle.pick.proofs.begin_rounds.Tie as tie
+use Rattle.call.proofs.Answers.{beginning, reach-high}
+use Rattle.call.proofs.begin_rounds.Statement.{statement}
+use Rattle.call.proofs.begin_rounds.Tie as tie
 
 pub begin-rounds-spec : {M : Type 1} → statement M
 begin-rounds-spec =

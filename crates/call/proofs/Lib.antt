@@ -1,0 +1,2 @@
+-- What a call comes to, part by part.
+pub mod Answers

@@ -1,0 +1,2 @@
+-- What one call comes to.
+pub mod Calls
