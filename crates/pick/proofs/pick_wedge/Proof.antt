@@ -6,9 +6,7 @@ use Rattle.pick.proofs.pick_wedge.Statement.{statement}
 use Rattle.pick.proofs.pick_wedge.Tie as tie
 
 in-its-kind : tie.Need-as-pick-requires
-in-its-kind c κs =
-    let s = c .before .before in
-    ends (made-read (s .fits .frame) (s .fits .reach) (c .make-call .ensures) .is)
+in-its-kind c κs = ends (c .make-call .ensures .is)
 
 as-its-solid : tie.Need-returns
 unfolding pickOf
