@@ -38,7 +38,7 @@ unfoldable pub checkOf : Solid → List ℕ → Vector → ℤ → ℤ → Check
 checkOf solid bytes p frame reach = checkAnswer p (p ⊕ signs (natAbs frame)) (check (permitted solid bytes) (look solid bytes) p frame reach)
 
 -- ---- the walk takes any ready start
--- refusal 13: more than 2 + 6K looks, or all three axes level
+-- at most 2 + 6K looks, and not all three axes level: else refusal 13
 unfoldable pub isReady : ℕ → ReadyStart → Bool
 isReady K d = leb (d .looks) (2 + 6 * K) && not (allLevel (d .level))
 
@@ -63,7 +63,7 @@ unfoldable pub answerFrom : ℕ → Asked Stop Found → Pick
 answerFrom n (answered f t) = Accepted (acceptedAnswer f (n + length t))
 answerFrom n (refused r t) = Refused (refusedAnswer r (n + length t))
 
--- before the rounds all counts are zero; they go on from the looks that it was handed
+-- before the rounds all counts are zero; in them the looks go on from those that it was handed
 unfoldable pub walkAnswer : ℕ → Asked Stop (Unit {0}) → Asked Stop Found → Pick
 walkAnswer n (answered _ t) walked = answerFrom n walked
 walkAnswer n (refused r t) walked = Refused (refusedAnswer r 0)
