@@ -28,9 +28,6 @@ module _ (ok : Bool) (look : Vector → Look) (p : Vector) (frame reach : ℤ) w
   abbrev c : Probe
   c = probe look p frame reach
 
-  abbrev R : ℕ
-  R = natAbs reach
-
   abbrev K : ℕ
   K = length (powers (natAbs reach))
 
@@ -53,7 +50,7 @@ module _ (ok : Bool) (look : Vector → Look) (p : Vector) (frame reach : ℤ) w
   at-once : {number : ℕ} {a : Vector} → (1 ≤ number) × (number ≤ 7) → CheckStopped (stop number a 0) []
   at-once h = record { refusal = refuse h; few = omega arith; small = inl refl }
 
-  permitted-small : Passed ok c p frame reach → R ≤ 256
+  permitted-small : Passed ok c p frame reach → natAbs reach ≤ 256
   permitted-small h = between-naturals 1 256 reach (h .permittedReach) .1
 
   looked : {number : ℕ} {a : Vector} {t : List Vector} → Passed ok c p frame reach → (1 ≤ number) × (number ≤ 7) → length t ≤ 2 → CheckStopped (stop number a 0) t
