@@ -2,20 +2,21 @@
 use mathlib.Core.Path.{_≡_, sym, ap, subst, subst₃, _∙_}
 use mathlib.Core.Bool.{Bool, true, false, not, _&&_}
 use mathlib.Core.Logic.{_≢_}
-use Prim.Native.Nat.{ℕ}
+use Prim.Native.Nat.{ℕ, _^_, _≤_}
+use native.Mathlib.Omega.{arith}
 use lib.Dec.{eqb}
 use lib.Ieee.{Float}
 use lib.IntN.{ℤ}
 use borrow.Author.Tests.{eq-eqb, ne-eqb}
 use mir.Syntax.{w32}
-use mir.Val.{SFits}
+use mir.Val.{Fits, SFits}
 use mir.Facts.{toZ-ofZ}
 use Rattle.integers.specs.Tests.{not-second}
 use Rattle.rules.specs.declared.Light.{Light}
 use Rattle.rules.specs.declared.Display.{Display}
 use Rattle.rules.specs.declared.Display.the-variants.{Lit, Unlit}
 use Rattle.rules.specs.Display.{squares, component, permittedNormal, light, display, DisplayPromise}
-use Rattle.display.specs.Parts.{inRange, Part, Shown, Parts}
+use Rattle.display.specs.Parts.{inRange, Part, Sized, Shown, Parts}
 use Rattle.display.specs.Permitted.{permitted-parts}
 use Rattle.display.proofs.Bits.{readBack}
 
@@ -23,8 +24,11 @@ abbrev light-of : Float → Float → Float → Light
 light-of a b c = record { x = a; y = b; z = c }
 
 -- ---- `lit`
-pub part-back : {s : ℕ} {n : ℤ} → SFits w32 n → Part s n → Part s (readBack n)
-part-back {s} b P = subst (Part s) (sym (toZ-ofZ b)) P
+pub sum-fits : {s : ℕ} {x y z : ℤ} → Parts s x y z → Fits w32 s
+sum-fits P = let h = P .first .small in record { fits = omega arith }
+
+pub sized-back : {s one : ℕ} {n : ℤ} → SFits w32 n → Part s n → one ≤ 2 ^ 49 → Sized s one (readBack n)
+sized-back {s} b P h = record { part = subst (Part s) (sym (toZ-ofZ b)) P; one-small = h }
 
 module _ {x y z : ℤ} (p : SFits w32 x) (q : SFits w32 y) (r : SFits w32 z) where
   pub lit-is : {s : ℕ} {a b c : Float} → Parts s x y z → Shown s (readBack x) a → Shown s (readBack y) b → Shown s (readBack z) c → light-of a b c ≡ light x y z

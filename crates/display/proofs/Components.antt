@@ -12,10 +12,11 @@ use mir.Facts.{toZ-ofZ}
 use Rattle.integers.specs.Order.{parts}
 use Rattle.integers.specs.Machine.{lt-yes, lt-no}
 use Rattle.rules.specs.Display.{square, largest, sizeOf, component, isNegative}
-use Rattle.display.specs.Parts.{Square, Part, Low, Size, Whole, Shown}
+use Rattle.display.specs.Parts.{Square, Part, Within, From, Size, Whole, Shown}
 use Rattle.display.specs.Roots.{largest-within}
 use Rattle.display.specs.Floats.{divided}
 use Rattle.display.proofs.Bits.{readBack}
+use Rattle.display.proofs.Roots.{from-low}
 
 module _ {s r : ℕ} {n : ℤ} (b : SFits w32 n) (P : Part s n) (Q : Square (readBack n) r) where
   is-square : r ≡ square n
@@ -24,8 +25,8 @@ module _ {s r : ℕ} {n : ℤ} (b : SFits w32 n) (P : Part s n) (Q : Square (rea
   pub target-fits : Fits w64 (r * 1073741824)
   target-fits = let e = is-square in let h = P .part in let k = P .small in record { fits = omega arith }
 
-  pub root-asks : Low s (r * 1073741824)
-  root-asks = let e = is-square in let h = P .part in let l = P .some in record { small = P .small; low = omega arith }
+  pub root-asks : {m : ℕ} → Within s (r * 1073741824) m → From s (r * 1073741824) m
+  root-asks W = let e = is-square in let h = P .part in let l = P .some in from-low (P .small) (omega arith) (W .low)
 
   pub size-is : {m : ℕ} → m ≡ largest s (r * 1073741824) 32768 → Size s n m
   unfolding sizeOf

@@ -1,5 +1,6 @@
 -- `lit` shows the three parts of one sum.
-use Rattle.display.proofs.Answers.{part-back, lit-is}
+use borrow.Author.Needs.{needs}
+use Rattle.display.proofs.Answers.{sum-fits, sized-back, lit-is}
 use Rattle.display.proofs.lit.Statement.{statement}
 use Rattle.display.proofs.lit.Tie as tie
 
@@ -7,4 +8,4 @@ pub lit-spec : {M : Type 1} → statement M
 lit-spec =
     tie.close
     (tie.spec
-    (λ c κs. search part-back) (λ c κs. search part-back) (λ c κs. search part-back) (λ c. search lit-is))
+    (λ c. search sum-fits) (λ c κs. search needs) (λ c κs. search sized-back) (λ c κs. search sized-back) (λ c κs. search sized-back) (λ c. search lit-is))

@@ -1,6 +1,6 @@
 -- `shown` divides by 32768 or by its opposite, which gives the sign.
 use borrow.Author.Needs.{needs}
-use Rattle.display.proofs.Answers.{part-back}
+use Rattle.display.proofs.Answers.{sized-back}
 use Rattle.display.proofs.Components.{shown-below, shown-from-zero}
 use Rattle.display.proofs.shown.Statement.{statement}
 use Rattle.display.proofs.shown.Tie as tie
@@ -9,5 +9,5 @@ pub shown-spec : {M : Type 1} → statement M
 shown-spec =
     tie.close
     (tie.spec
-    (λ c κs. search part-back)
+    (λ c κs. search sized-back)
     (λ c κs. search needs) (λ c. search shown-below) (λ c. search shown-from-zero))
