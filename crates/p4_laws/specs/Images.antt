@@ -45,7 +45,7 @@ pub record Counted (w h k : ℕ) (ends : Bool) (f : ℕ × List ℕ) : Type 0 wh
   pub clean : rows (f .0 * h) w (f .1) ≡ f .1
 
 module _ (w h : ℕ) (wide : 1 ≤ w) (s : List ℕ) where
-  pub rows-of : (at : ℕ) {i : ℕ} → imageAt w h s at ≡ good i → length (rows h w (drop i s)) ≡ sliceBytes w h
+  rows-of : (at : ℕ) {i : ℕ} → imageAt w h s at ≡ good i → length (rows h w (drop i s)) ≡ sliceBytes w h
   unfolding sliceBytes
   rows-of at {i} e = let n = image-in w h s at e in length-rows w wide h (drop i s) (simp length-drop (omega arith))
 

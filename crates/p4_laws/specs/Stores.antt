@@ -1,7 +1,7 @@
 -- Runs of bytes stored in a list.
 use mathlib.Core.Path.{_≡_, refl, sym, ap, _∙_}
 use mathlib.Core.List.{List, [], _∷_}
-use Prim.Native.Nat.{ℕ, suc, _+_, _≤_, _<_}
+use Prim.Native.Nat.{ℕ, suc, _+_, _<_}
 use native.Mathlib.Omega.{arith}
 use lib.ListN.{length, getD, drop, set, length-drop}
 use lib.Seq.{sets, set-comm}
@@ -19,9 +19,3 @@ pub set-sets : (l : List ℕ) (i j : ℕ) (x : ℕ) (b : List ℕ) → i < j →
 set-sets l i j x [] h = refl
 set-sets l i j x (y ∷ b) h =
     ap (λ (m : List ℕ). sets m (suc j) b) (set-comm l i j x y (omega arith)) ∙ set-sets (set l j y) i (suc j) x b (omega arith)
-
--- and so two runs
-pub sets-swap : (l : List ℕ) (i j : ℕ) (a b : List ℕ) → i + length a ≤ j → sets (sets l i a) j b ≡ sets (sets l j b) i a
-sets-swap l i j [] b h = refl
-sets-swap l i j (x ∷ a) b h =
-    sets-swap (set l i x) (suc i) j a b (omega arith) ∙ ap (λ (m : List ℕ). sets m (suc i) a) (set-sets l i j x b (omega arith))

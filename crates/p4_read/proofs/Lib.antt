@@ -1,2 +1,4 @@
 pub mod Finding
+pub mod Keeping
+pub mod Storing
 pub mod Reading
