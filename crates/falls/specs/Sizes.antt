@@ -1,4 +1,4 @@
--- Sizes of what a scene holds: the apex lies in the box, and a sign's size is 1.
+-- Sizes of what a scene holds: the apex lies in the box, the grid's ranks are small, and a sign's size is 1.
 use mathlib.Core.Logic.{inl, inr}
 use mathlib.Core.List.{List}
 use Prim.Native.Nat.{ℕ}
@@ -8,12 +8,20 @@ use Rattle.integers.specs.Sizes.{Within, within-is, within-literal}
 use Rattle.rules.specs.declared.Vector.{Vector}
 use Rattle.laws.specs.Frames.{IsSign, Signs}
 use Rattle.laws.specs.Bounds.{Bounded, bounded-wider}
+use Rattle.solid.specs.Grid.{GridRanks}
 use Rattle.solid.specs.Facts.{inside-bounded}
+use Rattle.solid.specs.Ranks.{ranks-small}
 use Rattle.falls.specs.declared.Scene.{Scene}
 use Rattle.falls.specs.Scene.{Ready}
 
+pub apex-bounded : {v : Scene} {bytes : List ℕ} → Ready v bytes → Bounded 1023 (v .apex)
+apex-bounded h = inside-bounded (h .permitted) (h .placed)
+
 pub apex-fits : {v : Scene} {bytes : List ℕ} → Ready v bytes → Bounded 1000000000 (v .apex)
-apex-fits h = bounded-wider (inside-bounded (h .permitted) (h .placed)) (lit≤ tt)
+apex-fits h = bounded-wider (apex-bounded h) (lit≤ tt)
+
+pub scene-ranks : {v : Scene} {bytes : List ℕ} → Ready v bytes → GridRanks (v .grid)
+scene-ranks {v} h = rw (h .gridded) (ranks-small (v .solid) (h .permitted))
 
 sign-bounded : (z : ℤ) → IsSign z → Within 1 z
 sign-bounded z (inl e) = within-is e (within-literal (pos 1))
