@@ -1,4 +1,4 @@
-//! A benchmark, not a test: the library beside plain Rust in one run, as a Markdown table.
+//! A benchmark, not a test: the library beside tuned Rust in one run, as a Markdown table.
 //! The script `here` builds and runs it.
 
 #![allow(dead_code)]
@@ -7,14 +7,15 @@
 mod answers;
 #[path = "../shared/chance.rs"]
 mod chance;
+mod growth;
 #[cfg(target_arch = "x86_64")]
 mod library;
 #[cfg(not(target_arch = "x86_64"))]
 #[path = "lowered.rs"]
 mod library;
-mod plain;
 #[path = "../shared/roomy.rs"]
 mod roomy;
+mod tuned;
 #[path = "../shared/wedge_lines.rs"]
 mod wedge_lines;
 mod worst;
@@ -38,7 +39,7 @@ const BEST_STACK: u64 = 83;
 struct Timed {
     name: String,
     library: f64,
-    plain: f64,
+    tuned: f64,
     ratio: f64,
 }
 
@@ -68,10 +69,10 @@ fn timed<I, A: PartialEq + Debug>(
     name: &str,
     inputs: &[I],
     mut library: impl FnMut(&I) -> A,
-    mut plain: impl FnMut(&I) -> A,
+    mut tuned: impl FnMut(&I) -> A,
 ) -> Timed {
     for input in inputs {
-        assert_eq!(library(input), plain(input), "{name}: plain Rust differs");
+        assert_eq!(library(input), tuned(input), "{name}: tuned Rust differs");
     }
     let once = seconds(inputs, 1, &mut library).max(1e-9) * inputs.len() as f64;
     let times = (0.002 / once).ceil() as usize;
@@ -79,14 +80,14 @@ fn timed<I, A: PartialEq + Debug>(
     for round in 0..ROUNDS {
         if round % 2 == 0 {
             ours.push(seconds(inputs, times, &mut library));
-            theirs.push(seconds(inputs, times, &mut plain));
+            theirs.push(seconds(inputs, times, &mut tuned));
         } else {
-            theirs.push(seconds(inputs, times, &mut plain));
+            theirs.push(seconds(inputs, times, &mut tuned));
             ours.push(seconds(inputs, times, &mut library));
         }
     }
     let ratio = median(ours.iter().zip(&theirs).map(|(a, b)| a / b).collect());
-    Timed { name: name.into(), library: median(ours), plain: median(theirs), ratio }
+    Timed { name: name.into(), library: median(ours), tuned: median(theirs), ratio }
 }
 
 /// Accepted picks of seeded slopes with this reach and so many level axes. (Two leave no step.)
@@ -122,9 +123,9 @@ fn timed_wedges<A: PartialEq + Debug>(
     name: &str,
     lines: &[[i32; 9]],
     library: impl Fn([i32; 9]) -> A,
-    plain: impl Fn([i32; 9]) -> A,
+    tuned: impl Fn([i32; 9]) -> A,
 ) -> Timed {
-    timed(name, lines, |&line| library(line), |&line| plain(line))
+    timed(name, lines, |&line| library(line), |&line| tuned(line))
 }
 
 /// One pick, touch or check on a stack.
@@ -139,13 +140,13 @@ fn timed_stacks<A: PartialEq + Debug>(
     name: &str,
     asked: &[Asked],
     library: impl Fn([i32; 3], &[u8], [i32; 3], i32, i32) -> A,
-    plain: impl Fn([i32; 3], &[u8], [i32; 3], i32, i32) -> A,
+    tuned: impl Fn([i32; 3], &[u8], [i32; 3], i32, i32) -> A,
 ) -> Timed {
     timed(
         name,
         asked,
         |a| library([a.side; 3], a.bytes, a.start, 0, a.reach),
-        |a| plain([a.side; 3], a.bytes, a.start, 0, a.reach),
+        |a| tuned([a.side; 3], a.bytes, a.start, 0, a.reach),
     )
 }
 
@@ -168,16 +169,16 @@ fn picks(rows: &mut Vec<Timed>) -> Vec<String> {
     for (reach, level_axes) in [(8, 0), (16, 0), (32, 0), (16, 1), (16, 2)] {
         let lines = typical_lines(reach, level_axes, 400);
         let name = format!("typical picks, wedge, reach {reach}{}", FACES[level_axes]);
-        rows.push(timed_wedges(&name, &lines, library::pick_wedge, plain::pick_wedge));
+        rows.push(timed_wedges(&name, &lines, library::pick_wedge, tuned::pick_wedge));
     }
     let (line, looks) = worst::worst_slope(WEDGE_SIDE, BEST_SLOPE, 4000);
     let told = line.map(|number| number.to_string()).join(" ");
     notes.push(format!("The worst wedge found is `{told}`, {looks} looks."));
     let name = format!("worst pick found, wedge, {looks} looks");
-    rows.push(timed_wedges(&name, &[line], library::pick_wedge, plain::pick_wedge));
+    rows.push(timed_wedges(&name, &[line], library::pick_wedge, tuned::pick_wedge));
     let stacks = typical_stacks(2);
     let asked = asked_in_the_middle(&stacks, 16);
-    let (ours, theirs) = (library::pick_stack, plain::pick_stack);
+    let (ours, theirs) = (library::pick_stack, tuned::pick_stack);
     rows.push(timed_stacks("typical picks, stack 256, reach 16", &asked, ours, theirs));
     let worst = worst::worst_stack(256, BEST_STACK, 12_000);
     notes
@@ -193,9 +194,9 @@ fn two_calls(rows: &mut Vec<Timed>) {
     for (level_axes, faces) in FACES.iter().enumerate() {
         let lines = typical_lines(16, level_axes, 400);
         let name = format!("typical checks, wedge, reach 16{faces}");
-        rows.push(timed_wedges(&name, &lines, library::check_wedge, plain::check_wedge));
+        rows.push(timed_wedges(&name, &lines, library::check_wedge, tuned::check_wedge));
         let checked: Vec<_> =
-            lines.iter().map(|&line| (line, plain::check_wedge(line).ready)).collect();
+            lines.iter().map(|&line| (line, tuned::check_wedge(line).ready)).collect();
         rows.push(timed(
             &format!("typical walks from a ready start, wedge, reach 16{faces}"),
             &checked,
@@ -203,13 +204,13 @@ fn two_calls(rows: &mut Vec<Timed>) {
                 library::walk_wedge([a, b, c, h], ready, frame, reach)
             },
             |&([a, b, c, h, .., frame, reach], ready)| {
-                plain::walk_wedge([a, b, c, h], ready, frame, reach)
+                tuned::walk_wedge([a, b, c, h], ready, frame, reach)
             },
         ));
     }
     let stacks = typical_stacks(2);
     let asked = asked_in_the_middle(&stacks, 16);
-    let (ours, theirs) = (library::check_stack, plain::check_stack);
+    let (ours, theirs) = (library::check_stack, tuned::check_stack);
     rows.push(timed_stacks("typical checks, stack 256, reach 16", &asked, ours, theirs));
     let checked: Vec<_> = stacks
         .iter()
@@ -219,20 +220,20 @@ fn two_calls(rows: &mut Vec<Timed>) {
         "typical walks from a ready start, stack 256, reach 16",
         &checked,
         |&(bytes, ready)| library::walk_stack([256; 3], bytes, ready, 0, 16),
-        |&(bytes, ready)| plain::walk_stack([256; 3], bytes, ready, 0, 16),
+        |&(bytes, ready)| tuned::walk_stack([256; 3], bytes, ready, 0, 16),
     ));
 }
 
 /// (1,1,254) takes as many steps as are ever allowed, 253, and on a wedge 5 + 6·254 looks: the
 /// most that a touch can. A stack ends it in the last round.
 fn touches(rows: &mut Vec<Timed>) {
-    let (ours, theirs) = (library::touch_wedge, plain::touch_wedge);
+    let (ours, theirs) = (library::touch_wedge, tuned::touch_wedge);
     let lines = touched_lines(16, 400);
     rows.push(timed_wedges("typical touches, wedge, reach 16", &lines, ours, theirs));
     let line = [1, 1, 254, 131_072, 511, 511, 511, 0, 256];
     let name = format!("worst touch, wedge, {} looks", theirs(line).looks);
     rows.push(timed_wedges(&name, &[line], ours, theirs));
-    let (ours, theirs) = (library::touch_stack, plain::touch_stack);
+    let (ours, theirs) = (library::touch_stack, tuned::touch_stack);
     let stacks = typical_stacks(0);
     let asked = asked_in_the_middle(&stacks, 16);
     rows.push(timed_stacks("typical touches, stack 256, reach 16", &asked, ours, theirs));
@@ -249,14 +250,14 @@ fn stacks(rows: &mut Vec<Timed>) {
         let bytes = Chance::of(1, "stack", 0).bytes(1 << 21);
         let mut file = vec![0; (1 << 21) + 256 * 11];
         let mut again = file.clone();
-        let written = plain::write_p4(sizes, &bytes, &mut file);
+        let written = tuned::write_p4(sizes, &bytes, &mut file);
         file.truncate(written.value as usize);
         let (mut ours, mut theirs) = (vec![0; 1 << 21], vec![0; 1 << 21]);
         rows.push(timed(
             &format!("read {width}×256×256, 2 MiB"),
             &[()],
             |()| library::read_p4(&file, &mut ours),
-            |()| plain::read_p4(&file, &mut theirs),
+            |()| tuned::read_p4(&file, &mut theirs),
         ));
         assert!(ours == theirs, "rows differ");
         let mut out = again.clone();
@@ -264,7 +265,7 @@ fn stacks(rows: &mut Vec<Timed>) {
             &format!("write {width}×256×256, 2 MiB"),
             &[()],
             |()| library::write_p4(sizes, &bytes, &mut out),
-            |()| plain::write_p4(sizes, &bytes, &mut again),
+            |()| tuned::write_p4(sizes, &bytes, &mut again),
         ));
         assert!(out == again, "files differ");
     }
@@ -278,8 +279,25 @@ fn displays(rows: &mut Vec<Timed>) {
         "display normal",
         &normals,
         |&normal| library::display(normal),
-        |&normal| plain::display(normal),
+        |&normal| tuned::display(normal),
     ));
+}
+
+/// Reach 8 to 256, the accepted ones of as many slopes each.
+fn print_growth() {
+    println!("\n| reach | accepted of {} | steps | looks | library | tuned Rust |", growth::TRIED);
+    println!("|---|---|---|---|---|---|");
+    for reach in [8, 16, 32, 64, 128, 256] {
+        let grown = growth::grown(reach);
+        let (count, steps, looks) = (grown.accepted.len(), grown.steps, grown.looks);
+        if count == 0 {
+            println!("| {reach} | 0 | | | | |");
+            continue;
+        }
+        let row = timed_wedges("growth", &grown.accepted, library::pick_wedge, tuned::pick_wedge);
+        let (ours, theirs) = (told(row.library), told(row.tuned));
+        println!("| {} | {count} | {steps:.1} | {looks:.0} | {ours} | {theirs} |", grown.reach);
+    }
 }
 
 fn machine() -> String {
@@ -315,13 +333,13 @@ fn main() {
     stacks(&mut rows);
     displays(&mut rows);
     println!("Machine: {}. Medians of {ROUNDS} rounds, both by turns.\n", machine());
-    println!("| | library | plain Rust | ratio |\n|---|---|---|---|");
+    println!("| | library | tuned Rust | ratio |\n|---|---|---|---|");
     for row in &rows {
         println!(
             "| {} | {} | {} | {:.2} |",
             row.name,
             told(row.library),
-            told(row.plain),
+            told(row.tuned),
             row.ratio
         );
     }
@@ -331,4 +349,5 @@ fn main() {
     }
     print_slowest("worst pick", "picks", &rows);
     print_slowest("worst touch", "touches", &rows);
+    print_growth();
 }

@@ -80,14 +80,18 @@ fn judge_places(begin: Begin, solid: Solid, bytes: &[u8], frame: u32, reach: u32
     ensures { λ r. ⌜ PlacesJudged begin solid (now (bytes .entry)) frame reach r ⌝ }
 {
     let p = start_of(begin);
-    if solid::is_inside(solid, p) {
+    let grid = solid::grid_of(solid, bytes);
+    if solid::is_inside(grid, p) {
         let s = signs_of(frame);
         let q = apex_of(begin, s);
         let span = span_of(begin, reach);
-        if solid::is_inside(solid, q) {
+        if solid::is_inside(grid, q) {
+            let here = solid::rank_of(grid, q);
             Fit::Scene(Scene {
                 solid: solid,
+                grid: grid,
                 apex: q,
+                here: here,
                 signs: s,
                 span: span,
                 reach: reach,

@@ -88,7 +88,7 @@ fn ask_way(scene: Scene, bytes: &[u8], m: Triangle, x: Pair, best: Best, looks: 
     let l = choice::second_of(m, x);
     let w = space::subtract(l, k);
     let u = space::lay(s, w);
-    let f = falls::ask_falls(scene, bytes, u, looks);
+    let f = falls::ask_vector(scene, bytes, u, looks);
     match f {
         Falls::Fell(n) => Round::Asked(choice::prefer(best, choice::weigh(x, l, w)), n),
         Falls::Kept(n) => Round::Asked(best, n),

@@ -1,8 +1,12 @@
 // The two solids behind one look.
 ghost use mathlib.Core.Path.{_≡_};
-ghost use Rattle.rules.specs.Solids.{permittedWedge, permitted, filledWedge, box, inSide, inBox, filled, look};
+ghost use lib.IntN.{pos};
+ghost use Rattle.rules.specs.Vectors.{dot};
+ghost use Rattle.rules.specs.Solids.{permittedWedge, permitted, inSide, inBox, seenAs, look};
+ghost use mathlib.Core.Bool.{true};
 ghost use Rattle.laws.specs.Bounds.{Bounded};
-ghost use Rattle.solid.specs.Asks.{PermittedSolid, InBoxOf, WedgeAsks};
+ghost use Rattle.solid.specs.Asks.{PermittedSolid};
+ghost use Rattle.solid.specs.Grid.{gridOf, sidesOf, ranksOf, GridRanks, filledAt, RankHeld};
 use rules::Look;
 use rules::Solid;
 use rules::Vector;
@@ -32,79 +36,112 @@ pub fn is_permitted(s: Solid, bytes: &[u8]) -> bool
 
 // ---- the box
 
-fn is_in_side(side: i32, x: i32) -> bool
-    ensures { λ r. ⌜ r ≡ inSide side x ⌝ }
-{
-    (0 <= x) & (x < side)
+// The sides of the box, and by what voxels are ranked. A side of 16 bits is never negative, so the compiler tests a point by one comparison a side.
+pub struct Grid {
+    pub width: u16,
+    pub height: u16,
+    pub depth: u16,
+    pub ranks: Vector,
 }
 
-fn is_in_box(sides: Vector, p: Vector) -> bool
-    ensures { λ r. ⌜ r ≡ inBox sides p ⌝ }
-{
-    let x = is_in_side(sides.x, p.x);
-    let y = is_in_side(sides.y, p.y);
-    let z = is_in_side(sides.z, p.z);
-    x & (y & z)
-}
-
-fn box_of(s: Solid) -> Vector
-    ensures { λ r. ⌜ r ≡ box s ⌝ }
+pub fn grid_of(s: Solid, bytes: &[u8]) -> Grid
+    requires { ⌜ PermittedSolid s (now bytes) ⌝ }
+    ensures { λ r. ⌜ r ≡ gridOf s ⌝ }
 {
     match s {
-        Solid::Wedge(_) => Vector {
-            x: 1024,
-            y: 1024,
-            z: 1024,
-        },
-        Solid::Stack(k) => Vector {
-            x: k.width,
-            y: k.height,
-            z: k.depth,
-        },
+        Solid::Wedge(w) => {
+            let ranks = Vector {
+                x: w.a,
+                y: w.b,
+                z: w.c,
+            };
+            Grid {
+                width: 1024,
+                height: 1024,
+                depth: 1024,
+                ranks: ranks,
+            }
+        }
+        Solid::Stack(k) => {
+            let ranks = stack::ranks_of(k);
+            Grid {
+                width: k.width as u16,
+                height: k.height as u16,
+                depth: k.depth as u16,
+                ranks: ranks,
+            }
+        }
     }
 }
 
-pub fn is_inside(s: Solid, p: Vector) -> bool
-    ensures { λ r. ⌜ r ≡ inBox (box s) p ⌝ }
+fn is_in_side(side: u16, x: i32) -> bool
+    ensures { λ r. ⌜ r ≡ inSide (pos side) x ⌝ }
 {
-    is_in_box(box_of(s), p)
+    (0 <= x) & (x < (side as i32))
+}
+
+pub fn is_inside(g: Grid, p: Vector) -> bool
+    ensures { λ r. ⌜ r ≡ inBox (sidesOf g) p ⌝ }
+{
+    let x = is_in_side(g.width, p.x);
+    let y = is_in_side(g.height, p.y);
+    let z = is_in_side(g.depth, p.z);
+    x & (y & z)
 }
 
 // ---- what is filled
 
-fn is_filled_wedge(w: Wedge, p: Vector) -> bool
-    requires { ⌜ WedgeAsks w × Bounded 1023 p ⌝ }
-    ensures { λ r. ⌜ r ≡ filledWedge w p ⌝ }
+// A voxel's rank: n·v of a wedge, the place of its bit in a stack. It is a product, so that along a way it goes in equal steps.
+pub fn rank_of(g: Grid, v: Vector) -> i32
+    requires { ⌜ GridRanks g × Bounded 10000 v ⌝ }
+    ensures { λ r. ⌜ r ≡ dot (g .ranks) v ⌝ }
 {
-    let x = w.a * p.x;
-    let y = w.b * p.y;
-    let z = w.c * p.z;
-    x + y + z < w.h
+    let r = g.ranks;
+    r.x * v.x + r.y * v.y + r.z * v.z
 }
 
-fn is_filled(s: Solid, bytes: &[u8], p: Vector) -> bool
-    requires { ⌜ PermittedSolid s (now bytes) × InBoxOf s p ⌝ }
-    ensures { λ r. ⌜ r ≡ filled s (now (bytes .entry)) p ⌝ }
+// Of a voxel in the box, by its rank.
+fn is_filled(s: Solid, bytes: &[u8], rank: i32) -> bool
+    requires { ⌜ RankHeld s (now bytes) rank ⌝ }
+    ensures { λ r. ⌜ r ≡ filledAt s (now (bytes .entry)) rank ⌝ }
 {
     match s {
-        Solid::Wedge(w) => is_filled_wedge(w, p),
-        Solid::Stack(k) => stack::is_filled(k, bytes, p),
+        Solid::Wedge(w) => rank < w.h,
+        Solid::Stack(_) => stack::is_bit(bytes, rank as usize),
     }
 }
 
 // ---- the look
 
-pub fn look_at(s: Solid, bytes: &[u8], p: Vector) -> Look
-    requires { ⌜ PermittedSolid s (now bytes) ⌝ }
+fn see(s: Solid, bytes: &[u8], rank: i32) -> Look
+    requires { ⌜ RankHeld s (now bytes) rank ⌝ }
+    ensures { λ r. ⌜ r ≡ seenAs true (filledAt s (now (bytes .entry)) rank) ⌝ }
+{
+    if is_filled(s, bytes, rank) {
+        Look::Filled
+    } else {
+        Look::Empty
+    }
+}
+
+pub fn look_at(s: Solid, g: Grid, bytes: &[u8], p: Vector) -> Look
+    requires { ⌜ PermittedSolid s (now bytes) × (g ≡ gridOf s) ⌝ }
     ensures { λ r. ⌜ r ≡ look s (now (bytes .entry)) p ⌝ }
 {
-    if is_inside(s, p) {
-        if is_filled(s, bytes, p) {
-            Look::Filled
-        } else {
-            Look::Empty
-        }
+    if is_inside(g, p) {
+        see(s, bytes, rank_of(g, p))
     } else {
         Look::Outside
     }
+}
+
+// The look at a point whose rank is at hand.
+pub fn look_ranked(s: Solid, g: Grid, bytes: &[u8], p: Vector, rank: i32) -> Look
+    requires { ⌜ PermittedSolid s (now bytes) × (g ≡ gridOf s) × (rank ≡ dot (ranksOf s) p) ⌝ }
+    ensures { λ r. ⌜ r ≡ look s (now (bytes .entry)) p ⌝ }
+{
+    if is_inside(g, p) {
+        return see(s, bytes, rank);
+    }
+    Look::Outside
 }

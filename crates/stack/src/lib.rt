@@ -1,9 +1,9 @@
 // Stacks: how many bytes they take, which are permitted, and which voxels are filled.
 ghost use mathlib.Core.Path.{_≡_};
-ghost use Rattle.rules.specs.Solids.{stackBytes, permittedStack, voxel, filledStack};
+ghost use Rattle.rules.specs.Solids.{stackBytes, permittedStack};
 ghost use Rattle.stack.specs.Sides.{Side, SidesOf, sizesPermitted};
 ghost use Rattle.stack.specs.Bytes.{SliceSides, RowBytes, SliceBytes};
-ghost use Rattle.stack.specs.Voxels.{VoxelHeld, PointHeld};
+ghost use Rattle.stack.specs.Bits.{stackRanks, bitAt, BitHeld};
 use rules::Stack;
 use rules::Vector;
 
@@ -59,24 +59,27 @@ pub fn is_permitted(k: Stack, bytes: &[u8]) -> bool
 
 // ---- voxels
 
-fn is_voxel(width: usize, height: usize, bytes: &[u8], x: usize, y: usize, z: usize) -> bool
-    requires { ⌜ VoxelHeld width height (now bytes) x y z ⌝ }
-    ensures { λ r. ⌜ r ≡ voxel width height (now (bytes .entry)) x y z ⌝ }
-{
-    let row = row_bytes(width);
-    let at = (z * height + y) * row + x / 8;
-    let b = bytes[at];
-    (b >> (7 - x % 8)) % 2 == 1
-}
-
-pub fn is_filled(k: Stack, bytes: &[u8], p: Vector) -> bool
-    requires { ⌜ PointHeld k (now bytes) p ⌝ }
-    ensures { λ r. ⌜ r ≡ filledStack k (now (bytes .entry)) p ⌝ }
+// A voxel's bit, counted from the first byte's highest, is its product with this: the bits of a column, of a row and of a slice.
+pub fn ranks_of(k: Stack) -> Vector
+    requires { ⌜ SidesOf k ⌝ }
+    ensures { λ r. ⌜ r ≡ stackRanks k ⌝ }
 {
     let width = k.width as usize;
     let height = k.height as usize;
-    let x = p.x as usize;
-    let y = p.y as usize;
-    let z = p.z as usize;
-    is_voxel(width, height, bytes, x, y, z)
+    let row = 8 * row_bytes(width);
+    let slice = 8 * slice_bytes(width, height);
+    Vector {
+        x: 1,
+        y: row as i32,
+        z: slice as i32,
+    }
+}
+
+// The highest bit of a byte comes first.
+pub fn is_bit(bytes: &[u8], place: usize) -> bool
+    requires { ⌜ BitHeld (now bytes) place ⌝ }
+    ensures { λ r. ⌜ r ≡ bitAt (now (bytes .entry)) place ⌝ }
+{
+    let b = bytes[place / 8];
+    (b >> (7 - place % 8)) % 2 == 1
 }

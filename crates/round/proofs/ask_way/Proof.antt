@@ -1,4 +1,4 @@
--- `round::ask_way` meets its contract: by what `ask_falls` promises of the pair's way.
+-- `round::ask_way` meets its contract: by what `ask_vector` promises of the pair's way.
 use native.Mathlib.Omega.{arith}
 use borrow.Author.Needs.{needs}
 use Rattle.choice.specs.Sound.{named, both-fit}
@@ -13,8 +13,8 @@ way-fits c κs = both-fit (search named) (search named) tt
 lay-requires : tie.Need-lay-requires
 lay-requires c κs = lay-fits (c .before .before .before .before .before .pre .0 .signed) (search named)
 
-ask-falls-requires : tie.Need-ask-falls-requires
-ask-falls-requires c κs =
+ask-vector-requires : tie.Need-ask-vector-requires
+ask-vector-requires c κs =
     let s = c .before .before .before .before .before .before in
     (s .pre .0, laid-bounded (s .pre .0 .signed) (search named) (c .lay .ensures), omega (arith, s .pre .3))
 
@@ -25,7 +25,7 @@ pub ask-way-spec : {M : Type 1} → statement M
 ask-way-spec =
     tie.close
     (tie.spec
-    (λ c κs. search needs) (λ c κs. search needs) way-fits lay-requires ask-falls-requires
+    (λ c κs. search needs) (λ c κs. search needs) way-fits lay-requires ask-vector-requires
     (λ c. search needs) weight-fits
     (λ c κs. search needs) (λ c. search needs) (λ c. search needs) (λ c. search ways)
     (λ c. search ways) (λ c. search ways))

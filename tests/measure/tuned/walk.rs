@@ -1,48 +1,64 @@
-//! The same walk, reader, writer and display normal as a Rust programmer would write them for
-//! speed: small numbers, early ends, slices copied whole. What the library is timed against.
+//! The walk. Vectors are laid in from the first to the last; a point is inside by one unsigned
+//! comparison a side; powers go by doubling. Whether a voxel is filled goes by its rank, which is a
+//! product with one vector: n·v of a wedge, the bit's place of a stack. So along a way only the
+//! ranks of q and of the way are computed, and doubled. The choice is the least m_l·(m_l - m_k).
 
-use crate::answers::{Check, Lit, Pick, Point, Read, Ready, Touch, Written};
+use crate::answers::{Check, Pick, Point, Ready, Touch};
 
 type Vector = [i32; 3];
 
 pub trait Solid {
-    fn sides(&self) -> Vector;
-    fn filled(&self, point: Vector) -> bool;
+    fn sides(&self) -> [u32; 3];
+    /// A voxel's rank is its product with this.
+    fn ranks(&self) -> Vector;
+    /// Of a voxel in the box, by its rank.
+    fn filled(&self, rank: i32) -> bool;
 }
 
 pub struct Wedge {
-    pub abc: Vector,
-    pub h: i32,
+    abc: Vector,
+    h: i32,
 }
 
 impl Solid for Wedge {
     #[inline]
-    fn sides(&self) -> Vector {
+    fn sides(&self) -> [u32; 3] {
         [1024; 3]
     }
 
     #[inline]
-    fn filled(&self, point: Vector) -> bool {
-        dot(self.abc, point) < self.h
+    fn ranks(&self) -> Vector {
+        self.abc
+    }
+
+    #[inline]
+    fn filled(&self, rank: i32) -> bool {
+        rank < self.h
     }
 }
 
 pub struct Stack<'a> {
-    pub sides: Vector,
-    pub row_bytes: usize,
-    pub bytes: &'a [u8],
+    sizes: Vector,
+    bytes: &'a [u8],
 }
 
 impl Solid for Stack<'_> {
     #[inline]
-    fn sides(&self) -> Vector {
-        self.sides
+    fn sides(&self) -> [u32; 3] {
+        self.sizes.map(|size| size as u32)
     }
 
     #[inline]
-    fn filled(&self, [x, y, z]: Vector) -> bool {
-        let row = (z * self.sides[1] + y) as usize;
-        self.bytes[row * self.row_bytes + (x as usize >> 3)] & (0x80 >> (x & 7)) != 0
+    fn ranks(&self) -> Vector {
+        let row = 8 * row_bytes(self.sizes[0]) as i32;
+        [1, row, row * self.sizes[1]]
+    }
+
+    #[inline]
+    fn filled(&self, rank: i32) -> bool {
+        // Safe: the stack is permitted and the voxel is in the box, so its byte is lent.
+        let byte = unsafe { *self.bytes.get_unchecked(rank as usize >> 3) };
+        byte & (0x80 >> (rank & 7)) != 0
     }
 }
 
@@ -57,18 +73,8 @@ fn minus(a: Vector, b: Vector) -> Vector {
 }
 
 #[inline]
-fn times(l: i32, a: Vector) -> Vector {
-    [l * a[0], l * a[1], l * a[2]]
-}
-
-#[inline]
 fn dot(a: Vector, b: Vector) -> i32 {
     a[0] * b[0] + a[1] * b[1] + a[2] * b[2]
-}
-
-#[inline]
-fn lay(signs: Vector, u: Vector) -> Vector {
-    [signs[0] * u[0], signs[1] * u[1], signs[2] * u[2]]
 }
 
 fn cross(a: Vector, b: Vector) -> Vector {
@@ -80,10 +86,8 @@ fn point([x, y, z]: Vector) -> Point {
 }
 
 #[inline]
-fn inside(sides: Vector, point: Vector) -> bool {
-    (point[0] as u32) < sides[0] as u32
-        && (point[1] as u32) < sides[1] as u32
-        && (point[2] as u32) < sides[2] as u32
+fn inside(sides: [u32; 3], [x, y, z]: Vector) -> bool {
+    ((x as u32) < sides[0]) & ((y as u32) < sides[1]) & ((z as u32) < sides[2])
 }
 
 /// What a walk is made for: a pick, a touch, a check or a walk from a ready start. Each is compiled
@@ -95,8 +99,11 @@ const FROM: u8 = 3;
 
 struct Walk<'a, S, const CALL: u8> {
     solid: &'a S,
-    sides: Vector,
+    sides: [u32; 3],
+    ranks: Vector,
     apex: Vector,
+    /// The apex's rank.
+    here: i32,
     signs: Vector,
     reach: i32,
     steps: u32,
@@ -107,39 +114,51 @@ struct Walk<'a, S, const CALL: u8> {
 struct Stop(u32, Vector);
 
 const PAIRS: [(usize, usize); 6] = [(0, 1), (0, 2), (1, 0), (1, 2), (2, 0), (2, 1)];
-const UNITS: [Vector; 3] = [[1, 0, 0], [0, 1, 0], [0, 0, 1]];
 
 impl<S: Solid, const CALL: u8> Walk<'_, S, CALL> {
     #[inline]
-    fn look(&mut self, point: Vector) -> Result<bool, Stop> {
+    fn look(&mut self, point: Vector, rank: i32) -> Result<bool, Stop> {
         if !inside(self.sides, point) {
             return Err(Stop(8, point));
         }
         self.looks += 1;
-        Ok(self.solid.filled(point))
+        Ok(self.solid.filled(rank))
     }
 
+    /// Of a vector that is laid in. The next point is as far from this one as this from the apex.
     #[inline]
-    fn falls(&mut self, u: Vector) -> Result<bool, Stop> {
-        let laid = lay(self.signs, u);
+    fn falls(&mut self, mut way: Vector) -> Result<bool, Stop> {
+        let mut along = dot(self.ranks, way);
+        let mut at = plus(self.apex, way);
+        let mut rank = self.here + along;
         let mut power = 1;
         loop {
-            if self.look(plus(self.apex, times(power, laid)))? {
+            if self.look(at, rank)? {
                 return Ok(true);
             }
             if CALL == TOUCH || power >= self.reach {
                 return Ok(false);
             }
             power *= 2;
+            at = plus(at, way);
+            rank += along;
+            way = plus(way, way);
+            along += along;
         }
+    }
+
+    /// The unit vectors, laid in.
+    #[inline]
+    fn units(&self) -> [Vector; 3] {
+        [[self.signs[0], 0, 0], [0, self.signs[1], 0], [0, 0, self.signs[2]]]
     }
 
     /// Which axes are level.
     fn begin(&mut self, start: Vector) -> Result<[bool; 3], Stop> {
-        if !self.look(start)? {
+        if !self.look(start, dot(self.ranks, start))? {
             return Err(Stop(5, start));
         }
-        if self.look(self.apex)? {
+        if self.look(self.apex, self.here)? {
             return Err(Stop(6, self.apex));
         }
         if CALL == TOUCH {
@@ -151,33 +170,29 @@ impl<S: Solid, const CALL: u8> Walk<'_, S, CALL> {
 
     fn axes(&mut self) -> Result<[bool; 3], Stop> {
         let mut level = [false; 3];
-        for (level, unit) in level.iter_mut().zip(UNITS) {
-            if !self.falls(times(-1, unit))? {
+        for (level, unit) in level.iter_mut().zip(self.units()) {
+            if !self.falls(minus([0; 3], unit))? {
                 if self.falls(unit)? {
-                    return Err(Stop(7, self.corner(unit)));
+                    return Err(Stop(7, minus(self.apex, unit)));
                 }
                 *level = true;
             }
         }
         if level == [true; 3] {
-            return Err(Stop(7, self.corner(UNITS[0])));
+            return Err(Stop(7, minus(self.apex, self.units()[0])));
         }
         Ok(level)
     }
 
     /// A touch asks no axis.
     fn corners(&mut self) -> Result<[bool; 3], Stop> {
-        for unit in UNITS {
-            let corner = self.corner(unit);
-            if !self.look(corner)? {
+        for unit in self.units() {
+            let corner = minus(self.apex, unit);
+            if !self.look(corner, dot(self.ranks, corner))? {
                 return Err(Stop(11, corner));
             }
         }
         Ok([false; 3])
-    }
-
-    fn corner(&self, unit: Vector) -> Vector {
-        minus(self.apex, lay(self.signs, unit))
     }
 
     /// Rounds over the pairs that take part, with so many steps (none if below zero). As in the
@@ -187,7 +202,7 @@ impl<S: Solid, const CALL: u8> Walk<'_, S, CALL> {
         pairs: [(usize, usize); N],
         allowed: i32,
     ) -> Result<[Vector; 3], Stop> {
-        let mut m = UNITS;
+        let mut m = self.units();
         loop {
             let mut best = None;
             for (k, l) in pairs {
@@ -216,30 +231,29 @@ impl<S: Solid, const CALL: u8> Walk<'_, S, CALL> {
             [true, false, false] => self.rounds([(1, 2), (2, 1)], reach - 2),
             [false, true, false] => self.rounds([(0, 2), (2, 0)], reach - 2),
             [false, false, true] => self.rounds([(0, 1), (1, 0)], reach - 2),
-            _ => Ok(UNITS),
+            _ => Ok(self.units()),
         }
     }
 
     /// The rounds and the end.
     fn end(&mut self, level: [bool; 3]) -> Result<Pick, Stop> {
         let m = self.walk(level)?;
-        let mut n = plus(plus(cross(m[0], m[1]), cross(m[1], m[2])), cross(m[2], m[0]));
-        for axis in (0..3).filter(|&axis| level[axis]) {
-            n[axis] = 0;
-        }
+        // A product of vectors that are laid in turns with the frame's signs.
+        let turn = self.signs[0] * self.signs[1] * self.signs[2];
+        let sum = plus(plus(cross(m[0], m[1]), cross(m[1], m[2])), cross(m[2], m[0]));
+        let n = [0, 1, 2].map(|axis| if level[axis] { 0 } else { turn * sum[axis] });
         if n.iter().map(|part| part.abs()).sum::<i32>() > self.reach {
             return Err(Stop(10, self.apex));
         }
-        let laid = |u| point(lay(self.signs, u));
         Ok(Pick {
             number: 0,
             place: point([0; 3]),
             steps: self.steps,
             looks: self.looks,
-            normal: laid(n),
-            m0: laid(m[0]),
-            m1: laid(m[1]),
-            m2: laid(m[2]),
+            normal: point(n),
+            m0: point(m[0]),
+            m1: point(m[1]),
+            m2: point(m[2]),
             apex: point(self.apex),
         })
     }
@@ -276,7 +290,9 @@ fn placed<S: Solid, const CALL: u8>(
     if !inside(sides, apex) {
         return Err(Stop(4, apex));
     }
-    Ok(Walk { solid, sides, apex, signs, reach, steps: 0, looks: 0 })
+    let ranks = solid.ranks();
+    let here = dot(ranks, apex);
+    Ok(Walk { solid, sides, ranks, apex, here, signs, reach, steps: 0, looks: 0 })
 }
 
 /// All of an answer but a touch's mark.
@@ -373,11 +389,11 @@ pub fn walk_wedge(slope: [i32; 4], ready: Ready, frame: i32, reach: i32) -> Pick
     walked_from(&wedge(slope), ready, frame, reach)
 }
 
-fn row_bytes(width: i32) -> usize {
+pub fn row_bytes(width: i32) -> usize {
     (width as usize + 7) >> 3
 }
 
-fn sizes_permitted(sizes: Vector, len: usize) -> bool {
+pub fn sizes_permitted(sizes: Vector, len: usize) -> bool {
     sizes.iter().all(|size| (1..=256).contains(size))
         && row_bytes(sizes[0]) * sizes[1] as usize * sizes[2] as usize <= len
 }
@@ -385,8 +401,7 @@ fn sizes_permitted(sizes: Vector, len: usize) -> bool {
 /// A stack and whether it is permitted.
 #[inline]
 fn stack(sizes: Vector, bytes: &[u8]) -> (Stack<'_>, bool) {
-    let stack = Stack { sides: sizes, row_bytes: row_bytes(sizes[0]), bytes };
-    (stack, sizes_permitted(sizes, bytes.len()))
+    (Stack { sizes, bytes }, sizes_permitted(sizes, bytes.len()))
 }
 
 #[inline]
@@ -432,174 +447,3 @@ pub fn walk_stack(sizes: [i32; 3], bytes: &[u8], ready: Ready, frame: i32, reach
     walked_from(&stack(sizes, bytes), ready, frame, reach)
 }
 
-fn read_refused(number: u32, value: usize) -> Read {
-    Read { number, value: value as u64, ..Default::default() }
-}
-
-fn is_white(byte: u8) -> bool {
-    matches!(byte, b' ' | b'\t' | b'\r' | b'\n')
-}
-
-/// The place after a comment that begins here.
-fn comment(input: &[u8], at: usize) -> Result<usize, Read> {
-    let end = input[at..].iter().position(|&byte| byte == b'\r' || byte == b'\n');
-    Ok(at + end.ok_or(read_refused(22, input.len()))? + 1)
-}
-
-/// The place after the white space required here, or after a comment that begins here.
-fn required_white(input: &[u8], at: usize) -> Result<usize, Read> {
-    match input.get(at) {
-        Some(b'#') => comment(input, at),
-        Some(&byte) if is_white(byte) => Ok(at + 1),
-        _ => Err(read_refused(22, at)),
-    }
-}
-
-/// The place after the rest of a gap.
-fn rest_of_gap(input: &[u8], mut at: usize) -> Result<usize, Read> {
-    loop {
-        match input.get(at) {
-            Some(b'#') => at = comment(input, at)?,
-            Some(&byte) if is_white(byte) => at += 1,
-            _ => return Ok(at),
-        }
-    }
-}
-
-/// A size and the place after the white space behind it.
-fn size(input: &[u8], first: usize) -> Result<(usize, usize), Read> {
-    let mut at = first;
-    let mut value = 0;
-    while let Some(digit) = input.get(at).filter(|byte| byte.is_ascii_digit()) {
-        value = (value * 10 + usize::from(digit - b'0')).min(1000);
-        at += 1;
-    }
-    if at == first {
-        return Err(read_refused(22, at));
-    }
-    let behind = required_white(input, at)?;
-    if !(1..=256).contains(&value) {
-        return Err(read_refused(23, first));
-    }
-    Ok((value, behind))
-}
-
-/// Width, height and the place of the rows.
-fn header(input: &[u8], at: usize) -> Result<(usize, usize, usize), Read> {
-    if !input[at..].starts_with(b"P4") {
-        return Err(read_refused(21, at));
-    }
-    let at = required_white(input, at + 2)?;
-    let (width, at) = size(input, rest_of_gap(input, at)?)?;
-    let (height, at) = size(input, rest_of_gap(input, at)?)?;
-    Ok((width, height, at))
-}
-
-/// Where the rows of each image begin, and the sizes.
-fn judged(input: &[u8], places: &mut [usize; 256]) -> Result<[usize; 3], Read> {
-    let (width, height, _) = header(input, 0)?;
-    let slice = ((width + 7) >> 3) * height;
-    let mut at = 0;
-    let mut depth = 0;
-    loop {
-        let (w, h, rows) = header(input, at)?;
-        if (w, h) != (width, height) {
-            return Err(read_refused(24, at));
-        }
-        if input.len() - rows < slice {
-            return Err(read_refused(25, input.len()));
-        }
-        places[depth] = rows;
-        depth += 1;
-        at = rows + slice;
-        if at == input.len() {
-            return Ok([width, height, depth]);
-        }
-        if depth == 256 {
-            return Err(read_refused(26, at));
-        }
-    }
-}
-
-/// Rows copied with their padding bits zero.
-fn copy_rows(to: &mut [u8], from: &[u8], width: usize) {
-    to.copy_from_slice(from);
-    if width % 8 != 0 {
-        let row = (width + 7) / 8;
-        let mask = 0xffu8 << (8 - width % 8);
-        to.iter_mut().skip(row - 1).step_by(row).for_each(|last| *last &= mask);
-    }
-}
-
-#[inline(never)]
-pub fn read_p4(input: &[u8], rows: &mut [u8]) -> Read {
-    let mut places = [0; 256];
-    let [width, height, depth] = match judged(input, &mut places) {
-        Ok(sizes) => sizes,
-        Err(refusal) => return refusal,
-    };
-    let slice = (width + 7) / 8 * height;
-    if rows.len() < slice * depth {
-        return read_refused(27, slice * depth);
-    }
-    for (to, &from) in rows.chunks_exact_mut(slice).zip(&places[..depth]) {
-        copy_rows(to, &input[from..from + slice], width);
-    }
-    let [width, height, depth] = [width, height, depth].map(|size| size as u32);
-    Read { number: 0, value: 0, width, height, depth }
-}
-
-/// "P4", LF, width, space, height, LF, and its length.
-fn plain_header(width: i32, height: i32) -> ([u8; 11], usize) {
-    let mut text = *b"P4\n        ";
-    let mut at = 3;
-    for (size, end) in [(width, b' '), (height, b'\n')] {
-        for unit in [100, 10, 1] {
-            if size >= unit {
-                text[at] = b'0' + (size / unit % 10) as u8;
-                at += 1;
-            }
-        }
-        text[at] = end;
-        at += 1;
-    }
-    (text, at)
-}
-
-#[inline(never)]
-pub fn write_p4(sizes: [i32; 3], bytes: &[u8], out: &mut [u8]) -> Written {
-    if !sizes_permitted(sizes, bytes.len()) {
-        return Written { number: 3, value: 0 };
-    }
-    let [width, height, depth] = sizes;
-    let slice = row_bytes(width) * height as usize;
-    let (text, head) = plain_header(width, height);
-    let needed = (head + slice) * depth as usize;
-    if out.len() < needed {
-        return Written { number: 27, value: needed as u64 };
-    }
-    for (image, rows) in out[..needed].chunks_exact_mut(head + slice).zip(bytes.chunks(slice)) {
-        image[..head].copy_from_slice(&text[..head]);
-        copy_rows(&mut image[head..], rows, width as usize);
-    }
-    Written { number: 0, value: needed as u64 }
-}
-
-/// The whole root of a number up to 2^30, which a double holds exactly.
-fn root(square: u64) -> u64 {
-    (square as f64).sqrt() as u64
-}
-
-#[inline(never)]
-pub fn display(normal: [i32; 3]) -> Lit {
-    let within = normal.iter().all(|n| (-1023..=1023).contains(n));
-    if normal == [0; 3] || !within {
-        return Lit { number: 30, ..Default::default() };
-    }
-    let sum = dot(normal, normal) as u64;
-    let [x, y, z] = normal.map(|n| {
-        let square = (((i64::from(n) * i64::from(n)) as u64) << 30) / sum;
-        (root(square) as i32 * n.signum()) as f32 / 32768.0
-    });
-    Lit { number: 0, x, y, z }
-}
