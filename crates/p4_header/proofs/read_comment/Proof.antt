@@ -14,6 +14,12 @@ Inv-loop src at i₀ i = Commenting src at i
 abbrev μ-loop : tie.MeasureT-loop
 μ-loop src at i₀ i = length src - i
 
+closed : tie.Need-returns Inv-loop μ-loop
+closed c = search commenting-closed
+
+unclosed : tie.Need-returns-2 Inv-loop μ-loop
+unclosed c = search commenting-unclosed
+
 pub read-comment-spec : {M : Type 1} → statement M
 read-comment-spec =
     tie.close
@@ -21,5 +27,5 @@ read-comment-spec =
     Inv-loop
     μ-loop
     (λ c. search commenting-start)
-    (λ c. omega arith) (λ c κs. search needs) (λ c. omega arith) (λ c. search commenting-closed)
-    (λ c. omega arith) (λ c. omega arith) (λ c. search commenting-next) (λ c. search commenting-unclosed))
+    (λ c. omega arith) (λ c κs. search needs) (λ c. omega arith) closed
+    (λ c. omega arith) (λ c. omega arith) (λ c. search commenting-next) unclosed)

@@ -4,9 +4,12 @@ use Rattle.p4_header.proofs.Judgements.{white-space, white-comment, whi
 use Rattle.p4_header.proofs.read_white.Statement.{statement}
 use Rattle.p4_header.proofs.read_white.Tie as tie
 
+a-comment : tie.Need-returns-2
+a-comment c = search white-comment
+
 pub read-white-spec : {M : Type 1} → statement M
 read-white-spec =
     tie.close
     (tie.spec
     (λ c. search needs) (λ c κs. search needs) (λ c. search needs) (λ c. search white-space)
-    (λ c κs. search needs) (λ c. search white-comment) (λ c. search white-other) (λ c. search white-past))
+    (λ c κs. search needs) a-comment (λ c. search white-other) (λ c. search white-past))

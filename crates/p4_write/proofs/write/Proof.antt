@@ -27,9 +27,12 @@ casts-keep-promise c =
     let w = c .before .before in
     write-cast (its-sides (w .before .before .before .before .before .before .before .before)) (w .write-stack .ensures)
 
+refused-as-judged : tie.Need-returns-2
+refused-as-judged c = search write-refused
+
 pub write-spec : {M : Type 1} → statement M
 write-spec =
     tie.close
     (tie.spec
     (λ c κs. search needs) width-fits height-fits depth-fits slices-there
-    (λ c. search needs) casts-keep-promise (λ c. search write-refused))
+    (λ c. search needs) casts-keep-promise refused-as-judged)

@@ -12,6 +12,9 @@ Inv-loop out₀ text from₀ at₀ end₀ out from at end = AtLine out₀ text o
 abbrev μ-loop : tie.MeasureT-loop
 μ-loop out₀ text from₀ at₀ end₀ out from at end = length text - end
 
+no-last-line : tie.Need-returns Inv-loop μ-loop
+no-last-line c = search ends-empty
+
 pub put-replies-spec : {M : Type 1} → statement M
 put-replies-spec =
     tie.close
@@ -21,6 +24,6 @@ put-replies-spec =
     (λ c κs. search needs) (λ c. search at-line-starts)
     (λ c. search needs) (λ c. search needs) (λ c. search needs) (λ c κs. search inner-room)
     (λ c. search needs) (λ c κs. search needs) (λ c. search needs) (λ c. search at-line-more)
-    (λ c. search needs) (λ c. search ends-empty)
+    (λ c. search needs) no-last-line
     (λ c. search needs) (λ c. search needs) (λ c. search needs) (λ c κs. search last-room)
     (λ c. search needs) (λ c. search ends-last))
