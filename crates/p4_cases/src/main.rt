@@ -17,10 +17,24 @@ fn try_write(stack: Stack, bytes: &[u8], lent: &mut [u8]) {
     io::write_all(STDOUT_FILENO, b"\n");
 }
 
-// With four bytes of 7 lent.
 fn read_four(input: &[u8]) {
     let mut lent = [7u8; 4];
     try_read(input, &mut lent);
+}
+
+// Each case, which a bar ends, with four bytes of 7 lent. One call for a list: a proof costs by the call.
+fn read_each(cases: &[u8]) {
+    let mut from = 0;
+    let mut i = 0;
+    while i < cases.len() {
+        if cases[i] == b'|' {
+            read_four(&cases[from..i]);
+            i = i + 1;
+            from = i;
+        } else {
+            i = i + 1;
+        }
+    }
 }
 
 fn sized(width: i32, height: i32, depth: i32) -> Stack {
@@ -38,72 +52,82 @@ fn write_two(stack: Stack) {
 }
 
 fn listed_cases() {
-    read_four(b"");
-    read_four(b"P41 1");
-    read_four(b"P4\n0 1\n");
-    read_four(b"P4\n257 1\n");
-    read_four(b"P4\n256 1\n");
-    read_four(b"P4\n1 1\n");
-    read_four(b"P4\n1 1\n\xff");
-    read_four(b"P4\n1 1\n\xff\n");
+    read_each(
+        b"|\
+        P41 1|\
+        P4\n0 1\n|\
+        P4\n257 1\n|\
+        P4\n256 1\n|\
+        P4\n1 1\n|\
+        P4\n1 1\n\xff|\
+        P4\n1 1\n\xff\n|",
+    );
 }
 
 // Magic, gaps, comments and the white space that a number is judged behind.
 fn header_cases() {
-    read_four(b"P");
-    read_four(b"P4");
-    read_four(b"P4#\n1 1\n\xff");
-    read_four(b"P4\n#");
-    read_four(b"P4\n# 1 1\n\xff");
-    read_four(b"P4\n0x");
-    read_four(b"P4\n0");
-    read_four(b"P4\n300");
-    read_four(b"P4\n300 ");
-    read_four(b"P4 \t\r\n003#");
-    read_four(b"P4 #one\r#two\n 003\t1\r\n");
-    read_four(b"P4 3 1#\xff");
-    read_four(b"P4 0000000000000000000000000003 1 \xff");
-    read_four(b"P4 9999999999999999999999999999 1 \xff");
-    read_four(b"P4 9 1 \xff\xff");
+    read_each(
+        b"P|\
+        P4|\
+        P4#\n1 1\n\xff|\
+        P4\n#|\
+        P4\n# 1 1\n\xff|\
+        P4\n0x|\
+        P4\n0|\
+        P4\n300|\
+        P4\n300 |\
+        P4 \t\r\n003#|\
+        P4 #one\r#two\n 003\t1\r\n|\
+        P4 3 1#\xff|\
+        P4 0000000000000000000000000003 1 \xff|\
+        P4 9999999999999999999999999999 1 \xff|\
+        P4 9 1 \xff\xff|",
+    );
 }
 
 // Comments that touch the magic, the width or the height (2026-02).
 fn touching_cases() {
-    read_four(b"P4#c\n3 2\n\xa0\x40");
-    read_four(b"P4#c\r3 2\n\xa0\x40");
-    read_four(b"P4\n3#w\n2\n\xa0\x40");
-    read_four(b"P4\n3#w\n#x\n 2#h\n\xa0\x40");
-    read_four(b"P4#a\n#b\n\t3 2\n\xa0\x40");
-    read_four(b"P4\n3 2##\n\xa0\x40");
-    read_four(b"P4\n3#2\n2#\n\xa0\x40");
-    read_four(b"P4\n3 2#h\n\xa0\x40P4#z\n3#\n2#\n\x20\xc0");
+    read_each(
+        b"P4#c\n3 2\n\xa0\x40|\
+        P4#c\r3 2\n\xa0\x40|\
+        P4\n3#w\n2\n\xa0\x40|\
+        P4\n3#w\n#x\n 2#h\n\xa0\x40|\
+        P4#a\n#b\n\t3 2\n\xa0\x40|\
+        P4\n3 2##\n\xa0\x40|\
+        P4\n3#2\n2#\n\xa0\x40|\
+        P4\n3 2#h\n\xa0\x40P4#z\n3#\n2#\n\x20\xc0|",
+    );
 }
 
 // After the height one line end, and no more; and what of comments is refused.
 fn touching_edges() {
-    read_four(b"P4\n3 2#h\r\n\x40");
-    read_four(b"P4\n3 2 #h\n");
-    read_four(b"P4#");
-    read_four(b"P4#c");
-    read_four(b"P4\n3 2#h");
-    read_four(b"P4\n0#w");
-    read_four(b"P4\n0#w\n");
-    read_four(b"P4\n300#w\n2#h\n");
-    read_four(b"P4#a\nx");
-    read_four(b"P4x");
-    read_four(b"P4\n3 2#h\n\xa0");
+    read_each(
+        b"P4\n3 2#h\r\n\x40|\
+        P4\n3 2 #h\n|\
+        P4#|\
+        P4#c|\
+        P4\n3 2#h|\
+        P4\n0#w|\
+        P4\n0#w\n|\
+        P4\n300#w\n2#h\n|\
+        P4#a\nx|\
+        P4x|\
+        P4\n3 2#h\n\xa0|",
+    );
 }
 
 // A second image, and a buffer too short.
 fn image_cases() {
-    read_four(b"P4 1 1 \xffP4\n01 #\n1\n\x7f");
-    read_four(b"P4 1 1 \xffP5 1 1 \xff");
-    read_four(b"P4 1 1 \xffP4 1 2 \xff\xff");
-    read_four(b"P4 1 1 \xffP4 2 0 \xff");
-    read_four(b"P4 1 1 \xffP4 1 1 ");
-    read_four(b"P4 1 4 \xff\xff\xff\xff");
-    read_four(b"P4 1 5 \xff\xff\xff\xff\xff");
-    read_four(b"P4 1 5 \xff\xff\xff\xff\xffP4 1 5 \xff");
+    read_each(
+        b"P4 1 1 \xffP4\n01 #\n1\n\x7f|\
+        P4 1 1 \xffP5 1 1 \xff|\
+        P4 1 1 \xffP4 1 2 \xff\xff|\
+        P4 1 1 \xffP4 2 0 \xff|\
+        P4 1 1 \xffP4 1 1 |\
+        P4 1 4 \xff\xff\xff\xff|\
+        P4 1 5 \xff\xff\xff\xff\xff|\
+        P4 1 5 \xff\xff\xff\xff\xffP4 1 5 \xff|",
+    );
 }
 
 fn repeat(out: &mut [u8], word: &[u8; 8]) {
