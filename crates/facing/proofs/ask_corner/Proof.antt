@@ -5,6 +5,9 @@ use Rattle.facing.proofs.Corners.{counting, asking-corner}
 use Rattle.facing.proofs.ask_corner.Statement.{statement}
 use Rattle.facing.proofs.ask_corner.Tie as tie
 
+filled : tie.Need-returns-4
+filled c = search asking-corner
+
 pub ask-corner-spec : {M : Type 1} → statement M
 ask-corner-spec =
     tie.close
@@ -12,4 +15,4 @@ ask-corner-spec =
     (λ c. search needs) (λ c. search needs) (λ c κs. search apex-fits)
     (λ c κs. search needs) (λ c. search needs) (λ c κs. search needs) (λ c. search needs) (λ c. search counting)
     (λ c κs. search needs) (λ c. search needs) (λ c. search counting) (λ c. search asking-corner) (λ c. search asking-corner)
-    (λ c. search asking-corner) (λ c. search asking-corner))
+    (λ c. search asking-corner) filled)

@@ -27,5 +27,8 @@ inside c =
     let known = rank-known (s .args .p) (s .pre .0) (s .pre .1) (i .is-inside .ensures) (r .before .if1 .taken) (r .rank-of .ensures) in
     looked-inside (s .args .p) (s .pre .0) (s .pre .1) (i .is-inside .ensures) (r .before .if1 .taken) (back w32 _ (r .rank-of .ok) ∙ known) (c .see .ensures)
 
+outside : tie.Need-returns-2
+outside c = search looked-outside
+
 pub look-at-spec : {M : Type 1} → statement M
-look-at-spec = tie.close (tie.spec (λ c κs. search needs) rank-fits rank-is-held inside (λ c. search looked-outside))
+look-at-spec = tie.close (tie.spec (λ c κs. search needs) rank-fits rank-is-held inside outside)
