@@ -14,8 +14,8 @@ Inv-loop scene bytes looks level₀ n₀ axis₀ level n axis = Asking (probeOf 
 abbrev μ-loop : tie.MeasureT-loop
 μ-loop scene bytes looks level₀ n₀ axis₀ level n axis = 3 - axis
 
-all-asked : tie.Need-returns-2 Inv-loop μ-loop
-all-asked c = search asking
+begins : tie.Need-loop-holds Inv-loop μ-loop
+begins c = search asking
 
 pub ask-axes-spec : {M : Type 1} → statement M
 ask-axes-spec =
@@ -23,7 +23,7 @@ ask-axes-spec =
     (tie.spec
     Inv-loop
     μ-loop
-    (λ c. search asking) (λ c κs. omega arith) (λ c κs. search one-axis) (λ c κs. search one-axis)
+    begins (λ c κs. omega arith) (λ c κs. search one-axis) (λ c κs. search one-axis)
     (λ c. search needs) (λ c. search asking)
     (λ c. search needs) (λ c κs. omega arith) (λ c. omega arith) (λ c. omega arith) (λ c. search asking)
-    (λ c κs. search apex-fits) all-asked)
+    (λ c κs. search apex-fits) (λ c. search asking))
