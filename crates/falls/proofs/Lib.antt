@@ -1,2 +1,3 @@
 -- The falls question power by power.
+pub mod Fits
 pub mod Powers

@@ -1,21 +1,23 @@
 -- The falls question over any look, power by power: what each outcome of the look at l makes of the rest.
-use mathlib.Core.Path.{_≡_, refl, sym, ap, _∙_}
+use mathlib.Core.Path.{_≡_, refl, sym, ap, subst, _∙_}
 use mathlib.Core.Bool.{Bool, true, false}
 use mathlib.Core.List.{List, [], _∷_}
 use Prim.Native.Nat.{ℕ, zero, suc, _+_, _≤_, _<_}
 use native.Mathlib.Omega.{arith}
 use lib.Dec.{leb, lit<, lit≤}
-use lib.IntN.{pos}
+use lib.IntN.{ℤ, pos, _+ℤ_, _-ℤ_}
 use borrow.Author.Tests.{le-leb, lt-leb}
 use Rattle.rules.specs.declared.Vector.{Vector}
 use Rattle.rules.specs.declared.Look.{Look}
 use Rattle.rules.specs.declared.Look.the-variants.{Filled, Empty, Outside}
-use Rattle.integers.specs.Laws.{*ℤ-distr, *ℤ-idl}
-use Rattle.rules.specs.Vectors.{vector, _⊕_, scale}
-use Rattle.laws.specs.Bounds.{Bounded, bounded-is, bounded-wider, bounded-sum}
-use Rattle.rules.specs.Walk.{powersFrom, powers, fallsAt}
+use Rattle.integers.specs.Reify.{byring, sides}
+use Rattle.rules.specs.Vectors.{_⊕_, _⊖_, scale, dot}
+use Rattle.laws.specs.Bounds.{Bounded, bounded-is, bounded-wider, bounded-sum, bounded-difference}
+use Rattle.laws.specs.Parts.{part, part-sum, part-difference, part-scale, vector-by-parts, dot-sum, dot-difference}
+use Rattle.rules.specs.Walk.{powersFrom, powers, fallsAt, Probe}
 use Rattle.laws.specs.Tally.{Tally, yes, no, Gives, then-yes, then-no, at-once, filled-there, empty-there, outside-there}
 use Rattle.falls.specs.Falls.{Fallen, Falling}
+use Rattle.falls.specs.declared.Falls.{Falls}
 use Rattle.falls.specs.declared.Falls.the-variants.{Fell, Kept, Stopped}
 
 module _ (look : Vector → Look) (q u : Vector) (span l n : ℕ) where
@@ -63,64 +65,75 @@ module _ (look : Vector → Look) (q u : Vector) (span l n : ℕ) where
   next-at fuel e h g = empty-at (suc fuel) e (rw (more-behind fuel h) g)
 
 -- ---- the loop: from what holds before a look and what the look was, to what holds after it
-twice : (l : ℕ) (u : Vector) → scale (pos l) u ⊕ scale (pos l) u ≡ scale (pos (l + l)) u
-unfolding _⊕_ scale
-twice l u = sym (λ i. vector (*ℤ-distr (pos l) (pos l) (u .x) i) (*ℤ-distr (pos l) (pos l) (u .y) i) (*ℤ-distr (pos l) (pos l) (u .z) i))
 
-once : (u : Vector) → u ≡ scale (pos 1) u
-unfolding scale
-once u = sym (λ i. vector (*ℤ-idl (u .x) i) (*ℤ-idl (u .y) i) (*ℤ-idl (u .z) i))
+-- twice as far from q
+twice : (q u : Vector) (l : ℤ) → q ⊕ scale l u ⊕ (q ⊕ scale l u ⊖ q) ≡ q ⊕ scale (l +ℤ l) u
+twice q u l = vector-by-parts (λ k. simp (part-sum, part-difference, part-scale) (byring (part k q ∷ part k u ∷ l ∷ []) (search sides depth 40 fits 5000) tt))
 
-pub way-fits : {look : Vector → Look} {q u : Vector} {span looks l n : ℕ} {way : Vector} → Falling look q u span looks l n way → Bounded 1000000000 way
-way-fits h = bounded-wider (h .sized) (omega (arith, h .low))
+once : (q u : Vector) → q ⊕ u ≡ q ⊕ scale (pos 1) u
+once q u = vector-by-parts (λ k. simp (part-sum, part-scale) (byring (part k q ∷ part k u ∷ []) (search sides depth 40 fits 5000) tt))
 
-pub falls-begins : {look : Vector → Look} {q u : Vector} {span looks : ℕ} → Bounded 2046 u → Falling look q u span looks 1 looks u
-unfolding powers
-falls-begins {u = u} {span = span} b = record {
-  along = once u;
-  sized = b;
-  one = lit≤ tt;
-  low = lit< tt;
-  few = omega arith;
-  fuel = span;
-  enough = omega arith;
-  rest = λ g. g;
-}
+-- from q and back
+back : (q u : Vector) {at : Vector} → at ≡ q ⊕ u → at ⊖ q ≡ u
+back q u e = ap (λ (v : Vector). v ⊖ q) e ∙ vector-by-parts (λ k. simp (part-sum, part-difference) (byring (part k q ∷ part k u ∷ []) (search sides depth 40 fits 5000) tt))
 
-module _ {look : Vector → Look} {q u : Vector} {span looks l n : ℕ} {way at : Vector} {k : Look} (h : Falling look q u span looks l n way) (a : at ≡ q ⊕ way) (b : k ≡ look at) where
-  at-there : at ≡ there look q u span l n
-  unfolding there
-  at-there = a ∙ ap (λ (v : Vector). q ⊕ v) (h .along)
+-- the first point tells the vector that was asked
+pub fallen-back : {c : Probe} {u first : Vector} {looks : ℕ} {f : Falls} → first ≡ c .apex ⊕ u → Fallen c (first ⊖ c .apex) looks f → Fallen c u looks f
+fallen-back {c} {u} {looks = looks} {f} e h = subst (λ (v : Vector). Fallen c v looks f) (back (c .apex) u e) h
 
-  look-is : {j : Look} → k ≡ j → look (there look q u span l n) ≡ j
-  look-is e = sym (ap look at-there) ∙ sym b ∙ e
+module _ {look : Vector → Look} {r q u : Vector} {span looks : ℕ} where
+  begins : {at : Vector} {here rise rank : ℤ} → Bounded 1023 q → Bounded 2046 u → here ≡ dot r q → rise ≡ dot r u → at ≡ q ⊕ u → rank ≡ here +ℤ rise → Falling look r q u span looks 1 looks at rank
+  unfolding powers
+  begins {at} b d h i a e = record {
+    along = a ∙ once q u;
+    ranked = e ∙ (λ j. h j +ℤ i j) ∙ sym (dot-sum r q u) ∙ ap (dot r) (sym a);
+    sized = bounded-is a (bounded-sum b d);
+    one = lit≤ tt;
+    low = lit< tt;
+    few = omega arith;
+    fuel = span;
+    enough = omega arith;
+    rest = λ g. g;
+  }
 
-  pub falls-stopped : {s : Vector} → k ≡ Outside → Fallen (record { look = look; apex = q; signs = s; powers = powers span }) u looks (Stopped at n)
-  falls-stopped e = record { gives = rw at-there (h .rest (outside-at look q u span l n (h .fuel) (look-is e))); few = omega (arith, h .few, h .low) }
+  pub falls-begins : {at : Vector} {here rise rank : ℤ} → Bounded 1023 q → Bounded 2046 u → here ≡ dot r q → rise ≡ dot r u → at ≡ q ⊕ u → rank ≡ here +ℤ rise → Falling look r q (at ⊖ q) span looks 1 looks at rank
+  falls-begins {at} {rank = rank} b d h i a e = subst (λ (v : Vector). Falling look r q v span looks 1 looks at rank) (sym (back q u a)) (begins b d h i a e)
 
-  pub falls-fell : {s : Vector} → k ≡ Filled → Fallen (record { look = look; apex = q; signs = s; powers = powers span }) u looks (Fell (n + 1))
-  falls-fell e = record { gives = h .rest (filled-at look q u span l n (h .fuel) (look-is e)); few = omega (arith, h .few, h .low) }
+  module _ {l n : ℕ} {at : Vector} {rank : ℤ} {k : Look} (h : Falling look r q u span looks l n at rank) (b : k ≡ look at) where
+    look-is : {j : Look} → k ≡ j → look (there look q u span l n) ≡ j
+    unfolding there
+    look-is e = sym (ap look (h .along)) ∙ sym b ∙ e
 
-  pub falls-kept : {s : Vector} → k ≡ Empty → span ≤ l → Fallen (record { look = look; apex = q; signs = s; powers = powers span }) u looks (Kept (n + 1))
-  falls-kept e o = record { gives = h .rest (last-at look q u span l n (h .fuel) (look-is e) o); few = omega (arith, h .few, h .low) }
+    pub falls-stopped : {s : Vector} → k ≡ Outside → Fallen (record { look = look; apex = q; signs = s; powers = powers span }) u looks (Stopped at n)
+    unfolding there
+    falls-stopped e = record { gives = rw (h .along) (h .rest (outside-at look q u span l n (h .fuel) (look-is e))); few = omega (arith, h .few, h .low) }
 
-  -- fuel is left, since the span is not met
-  more-fuel : (fuel : ℕ) → l < span → span ≤ l + fuel → (f : ℕ) × (fuel ≡ suc f)
-  more-fuel zero o r = absurd (omega arith)
-  more-fuel (suc f) o r = (f, refl)
+    pub falls-fell : {s : Vector} → k ≡ Filled → Fallen (record { look = look; apex = q; signs = s; powers = powers span }) u looks (Fell (n + 1))
+    falls-fell e = record { gives = h .rest (filled-at look q u span l n (h .fuel) (look-is e)); few = omega (arith, h .few, h .low) }
 
-  pub falls-on : {far : Vector} → span ≤ 256 → k ≡ Empty → l < span → far ≡ way ⊕ way → Falling look q u span looks (l + l) (n + 1) far
-  falls-on {far} r e o d =
-      let f = more-fuel (h .fuel) o (h .enough) in
-      record {
-        along = d ∙ ap (λ (v : Vector). v ⊕ v) (h .along) ∙ twice l u;
-        sized = bounded-is d (bounded-wider (bounded-sum (h .sized) (h .sized)) (omega arith));
-        one = omega (arith, h .one);
-        low = omega arith;
-        few = omega (arith, h .few, h .one);
-        fuel = f .0;
-        enough = omega (arith, h .one, h .enough, f .1);
-        rest = λ g. h .rest (rw (f .1) (next-at look q u span l n (f .0) (look-is e) o g));
-      }
+    pub falls-kept : {s : Vector} → k ≡ Empty → span ≤ l → Fallen (record { look = look; apex = q; signs = s; powers = powers span }) u looks (Kept (n + 1))
+    falls-kept e o = record { gives = h .rest (last-at look q u span l n (h .fuel) (look-is e) o); few = omega (arith, h .few, h .low) }
 
-pub ruleset looked = (falls-stopped, falls-fell, falls-kept, falls-on)
+    -- fuel is left, since the span is not met
+    more-fuel : (fuel : ℕ) → l < span → span ≤ l + fuel → (f : ℕ) × (fuel ≡ suc f)
+    more-fuel zero o t = absurd (omega arith)
+    more-fuel (suc f) o t = (f, refl)
+
+    pub falls-on : {gone far : Vector} {here next : ℤ} → Bounded 1023 q → Bounded 1023 at → here ≡ dot r q → span ≤ 256 → k ≡ Empty → l < span → gone ≡ at ⊖ q → far ≡ at ⊕ gone → next ≡ rank +ℤ (rank -ℤ here)
+        → Falling look r q u span looks (l + l) (n + 1) far next
+    falls-on {gone} {far} c i y t e o d a x =
+        let f = more-fuel (h .fuel) o (h .enough) in
+        let w = a ∙ ap (λ (v : Vector). at ⊕ v) d in
+        record {
+          along = w ∙ (λ j. h .along j ⊕ (h .along j ⊖ q)) ∙ twice q u (pos l);
+          ranked = x ∙ (λ j. h .ranked j +ℤ (h .ranked j -ℤ y j)) ∙ sym (dot-sum r at (at ⊖ q) ∙ ap (λ (z : ℤ). dot r at +ℤ z) (dot-difference r at q)) ∙ ap (dot r) (sym w);
+          sized = bounded-is w (bounded-wider (bounded-sum i (bounded-difference i c)) (lit≤ tt));
+          one = omega (arith, h .one);
+          low = omega arith;
+          few = omega (arith, h .few, h .one);
+          fuel = f .0;
+          enough = omega (arith, h .one, h .enough, f .1);
+          rest = λ g. h .rest (rw (f .1) (next-at look q u span l n (f .0) (look-is e) o g));
+        }
+
+pub ruleset looked = (falls-stopped, falls-fell, falls-kept)

@@ -1,4 +1,6 @@
 -- What a permitted solid and a point of its box give, as sizes. Every box lies in the cube of side 1024, so whatever is looked at inside lies there.
+use mathlib.Core.Path.{_≡_, sym, _∙_}
+use mathlib.Core.Bool.{false}
 use mathlib.Core.List.{List}
 use Prim.Native.Nat.{ℕ}
 use native.Mathlib.Omega.{arith}
@@ -11,11 +13,14 @@ use Rattle.rules.specs.declared.Vector.{Vector}
 use Rattle.rules.specs.declared.Wedge.{Wedge}
 use Rattle.rules.specs.declared.Solid.{Solid}
 use Rattle.rules.specs.declared.Solid.the-variants.{Wedge as IsWedge}
-use Rattle.rules.specs.Solids.{between, permittedWedge}
+use Rattle.rules.specs.declared.Look.{Look}
+use Rattle.rules.specs.declared.Look.the-variants.{Empty}
+use Rattle.rules.specs.Solids.{between, permittedWedge, look}
 use Rattle.range.specs.Ranges.{between-within}
 use Rattle.laws.specs.Bounds.{Bounded}
 use Rattle.laws.specs.Ranges.{Between}
-use Rattle.laws.specs.Boxes.{look-inside, solid-cube}
+use Rattle.laws.specs.Tests.{is-true}
+use Rattle.laws.specs.Boxes.{look-inside, look-as, solid-cube}
 use Rattle.solid.specs.Asks.{PermittedSolid, InBoxOf, WedgeAsks}
 
 pub wedge-asks : {w : Wedge} {bytes : List ℕ} → PermittedSolid (IsWedge w) bytes → WedgeAsks w
@@ -40,3 +45,7 @@ inside-bounded {s} {bytes} {p} h i =
   where
     size : {x : ℤ} → Between 1023 x → Within 1023 x
     size h = omega (arith, parts, sizes)
+
+-- and what is looked at and empty is a point of the box
+pub empty-bounded : {s : Solid} {bytes : List ℕ} {p : Vector} {l : Look} → PermittedSolid s bytes → l ≡ look s bytes p → l ≡ Empty → Bounded 1023 p
+empty-bounded {s} {bytes} {p} h e f = inside-bounded h (record { is = is-true _ (look-as s bytes p false (sym e ∙ f) .0) })

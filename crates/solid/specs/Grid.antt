@@ -17,7 +17,7 @@ abbrev pub ranksOf : Solid → Vector
 ranksOf (IsWedge w) = vector (w .a) (w .b) (w .c)
 ranksOf (IsStack k) = stackRanks k
 
-abbrev grid : ℕ → ℕ → ℕ → Vector → Grid
+abbrev pub grid : ℕ → ℕ → ℕ → Vector → Grid
 grid a b c r = record { width = a; height = b; depth = c; ranks = r }
 
 abbrev pub gridOf : Solid → Grid

@@ -1,3 +1,4 @@
 pub mod Asks
 pub mod Grid
 pub mod Facts
+pub mod Ranks

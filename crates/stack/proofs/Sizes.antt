@@ -3,13 +3,17 @@ use mathlib.Core.Path.{_≡_, refl, ap, ap₂, _∙_}
 use Prim.Native.Nat.{ℕ, _+_, _*_, _/_, _≤_}
 use native.Mathlib.Nat.{mul-le-mul}
 use native.Mathlib.Omega.{arith}
-use mir.Syntax.{w64}
-use mir.Val.{Fits}
+use lib.IntN.{pos}
+use mir.Syntax.{w32, w64}
+use mir.Val.{Fits, toZ}
 use mir.Facts.{fits-le, fits-lit}
+use Rattle.integers.specs.Machine.{natural-back}
 use Rattle.rules.specs.declared.Stack.{Stack}
+use Rattle.rules.specs.Vectors.{vector}
 use Rattle.rules.specs.Solids.{rowBytes, sliceBytes, stackBytes}
 use Rattle.stack.specs.Sides.{Side, SidesOf, cast, side-kept, side-cast}
 use Rattle.stack.specs.Bytes.{SliceSides, RowBytes, SliceBytes}
+use Rattle.stack.specs.Bits.{stackRanks}
 
 pub row-bytes : {w : ℕ} → Side w → RowBytes w ((w + 7) / 8)
 unfolding rowBytes
@@ -38,3 +42,11 @@ module _ {k : Stack} (s : SidesOf k) where
     pub stack-bytes : cast (k .depth) * n ≡ stackBytes k
     unfolding stackBytes
     stack-bytes = ap₂ _*_ (side-kept (s .deep)) (z .is ∙ ap₂ sliceBytes (side-kept (s .wide)) (side-kept (s .high)))
+
+    -- 8 bits a byte
+    pub ranks-are : {row : ℕ} → RowBytes (cast (k .width)) row → vector (pos 1) (toZ w32 (8 * row)) (toZ w32 (8 * n)) ≡ stackRanks k
+    unfolding stackRanks
+    ranks-are {row} r =
+        let y = natural-back w32 (8 * row) 256 (omega (arith, r .small)) tt ∙ ap (λ (b : ℕ). pos (8 * b)) (r .is ∙ ap rowBytes (side-kept (s .wide))) in
+        let x = natural-back w32 (8 * n) 65536 (omega (arith, z .small)) tt ∙ ap (λ (b : ℕ). pos (8 * b)) (z .is ∙ ap₂ sliceBytes (side-kept (s .wide)) (side-kept (s .high))) in
+        λ i. vector (pos 1) (y i) (x i)

@@ -2,18 +2,18 @@
 use mathlib.Core.Path.{_≡_, sym, ap, _∙_}
 use mathlib.Core.Bool.{Bool, true, _&&_, and-assoc}
 use mathlib.Core.List.{List}
-use Prim.Native.Nat.{ℕ, _*_, _≤_}
+use Prim.Native.Nat.{ℕ, _*_, _^_, _≤_}
 use native.Mathlib.Omega.{arith}
-use lib.Dec.{T, leb}
+use lib.Dec.{T, leb, ltb}
 use lib.IntN.{ℤ, pos, natAbs}
 use lib.ListN.{length}
 use lib.Signed.{_≤ℤ_, nonNeg}
 use borrow.Author.Tests.{le-leb, leb-true}
-use mir.Syntax.{w32, w64}
-use mir.Val.{Fits, toZ, ofZ}
+use mir.Syntax.{Width, w32, w64}
+use mir.Val.{Fits, bits, toZ, ofZ}
 use Rattle.integers.specs.Order.{parts}
 use Rattle.integers.specs.Sizes.{Within, within-parts}
-use Rattle.integers.specs.Machine.{machine, fits-unsigned, value}
+use Rattle.integers.specs.Machine.{machine, bounded-stands, back-stands, cast-holds, value}
 use Rattle.integers.specs.Tests.{both, first-of, second-of}
 use Rattle.rules.specs.declared.Stack.{Stack}
 use Rattle.rules.specs.Solids.{between, permittedSize, sliceBytes, stackBytes, permittedStack}
@@ -95,7 +95,7 @@ permitted-too k bytes other e l =
     permitted-stack k other
     ∙ both (first-of (sizesPermitted k) (leb (stackBytes k) (length bytes)) (sym (permitted-stack k bytes) ∙ e)) (le-leb (stackBytes k) (length other) l)
 
--- ---- a side, cast to `usize`: the cast reads its bits, and keeps it
+-- ---- a side, cast to an unsigned width: the cast reads its bits, and keeps it
 abbrev pub cast : ℤ → ℕ
 cast n = natAbs (toZ w32 (ofZ w32 n))
 
@@ -106,12 +106,12 @@ module _ {n : ℤ} (s : SideOf n) where
   pub side-high : n ≤ℤ pos 256
   side-high = omega (arith, parts, within-parts within)
 
+  -- to any width that holds 256
+  pub side-casts-to : (v : Width) → T (ltb 256 (2 ^ bits v)) → T (nonNeg (toZ w32 (ofZ w32 n))) × Fits v (cast n)
+  side-casts-to v t = let e = s .is in cast-holds v (toZ w32 (ofZ w32 n)) (back-stands w32 (bounded-stands within)) t (omega (arith, parts))
+
   pub side-casts : T (nonNeg (toZ w32 (ofZ w32 n))) × Fits w64 (cast n)
-  side-casts =
-      let w = within in
-      let e = s .is in
-      let low : pos 0 ≤ℤ n = omega (arith, parts) in
-      fits-unsigned (search machine depth 30 fits 5000) tt low
+  side-casts = side-casts-to w64 tt
 
   pub side-kept : cast n ≡ natAbs n
   side-kept = let w = within in value (search machine depth 30 fits 5000) tt

@@ -41,7 +41,7 @@ fn ask_minus(scene: Scene, bytes: &[u8], e: Vector, looks: u32) -> Falls
 {
     let s = scene.signs;
     let u = facing::lay_minus(s, e);
-    falls::ask_falls(scene, bytes, u, looks)
+    falls::ask_vector(scene, bytes, u, looks)
 }
 
 // Minus the unit vector e doesn't fall, so its opposite is asked too: refusal 7 if that falls, else the axis is level.
@@ -51,7 +51,7 @@ fn ask_opposite(scene: Scene, bytes: &[u8], e: Vector, looks: u32) -> AxisAnswer
 {
     let s = scene.signs;
     let u = space::lay(s, e);
-    let f = falls::ask_falls(scene, bytes, u, looks);
+    let f = falls::ask_vector(scene, bytes, u, looks);
     match f {
         Falls::Fell(n) => {
             let seven = refuse_axis(scene, e, n);

@@ -1,30 +1,27 @@
--- Each solid's own test. What it asks follows from the solid's being permitted and the point's being inside.
-use mathlib.Core.Path.{_≡_}
-use mathlib.Core.Bool.{Bool}
-use mathlib.Core.List.{List}
-use Prim.Native.Nat.{ℕ}
+-- Each solid's own test of a rank: below h, or a bit of the lent bytes.
+use mir.Facts.{toZ-ofZ}
 use borrow.Author.Needs.{needs}
-use Rattle.rules.specs.declared.Solid.{Solid}
-use Rattle.rules.specs.declared.Vector.{Vector}
-use Rattle.rules.specs.Solids.{filled}
-use Rattle.stack.specs.Voxels.{point-held}
-use Rattle.solid.specs.Facts.{wedge-asks, inside-bounded}
+use Rattle.integers.specs.Machine.{machine, typed, fits-unsigned, value}
 use Rattle.solid.proofs.is_filled.Statement.{statement}
 use Rattle.solid.proofs.is_filled.Tie as tie
 
-wedge : tie.Need-is-filled-wedge-requires
-wedge c κs = let s = c .before .before .before .before .pre in let e = c .before .s .given .1 in (wedge-asks (rw e at (s .0)), inside-bounded (s .0) (s .1))
+bit-casts : tie.Need-cast-is-bit
+bit-casts c =
+    let s = c .before .before .before in
+    fits-unsigned (search (machine, typed) depth 30 fits 5000) tt ((rw (c .enum-told .given .1) at (s .pre)) .0)
 
-stack : tie.Need-is-filled-requires
-stack c κs = let s = c .before .before .before .before .pre in let e = c .before .s2 .given .1 in point-held (rw e at (s .0 .is)) (rw e at (s .1 .is))
+bit-is-held : tie.Need-is-bit-requires
+bit-is-held c κs =
+    let s = c .before .before .before in
+    rw (toZ-ofZ (s .fits .rank)) ((rw (c .enum-told .given .1) at (s .pre)) .1)
 
-by-solid : (bytes : List ℕ) (p : Vector) {s t : Solid} {r : Bool} → s ≡ t → r ≡ filled t bytes p → r ≡ filled s bytes p
-by-solid bytes p e h = rw e h
+wedge : tie.Need-returns
+wedge c = rw (c .before .before .before .s .given .1) (value (search (machine, typed) depth 30 fits 5000) tt)
+
+stack : tie.Need-returns-2
+stack c =
+    let s = c .before .before .before .before in
+    rw (c .before .enum-told .given .1) (rw (toZ-ofZ (s .fits .rank)) at (c .is-bit .ensures))
 
 pub is-filled-spec : {M : Type 1} → statement M
-is-filled-spec =
-    tie.close
-    (tie.spec
-    (λ c. search needs) wedge
-    (λ c. search needs) stack
-    (λ c. search by-solid) (λ c. search by-solid))
+is-filled-spec = tie.close (tie.spec (λ c. search needs) (λ c. search needs) bit-casts bit-is-held wedge stack)

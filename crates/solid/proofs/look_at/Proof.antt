@@ -1,33 +1,31 @@
--- The definition's two tests, each as the call judged it.
+-- The grid's test, then the voxel by its rank.
+use mathlib.Core.Path.{_∙_}
+use mir.Syntax.{w32}
 use borrow.Author.Needs.{needs}
-use mathlib.Core.Path.{_≡_, sym, _∙_}
-use mathlib.Core.Bool.{Bool, true, false}
-use mathlib.Core.List.{List}
-use Prim.Native.Nat.{ℕ}
-use Rattle.rules.specs.declared.Vector.{Vector}
-use Rattle.rules.specs.declared.Solid.{Solid}
-use Rattle.rules.specs.declared.Look.{Look}
-use Rattle.rules.specs.Solids.{box, inBox, filled, seenAs, look}
+use Rattle.integers.specs.Machine.{back}
+use Rattle.solid.proofs.Looks.{looked-outside, rank-asks, rank-known, see-asks, looked-inside}
 use Rattle.solid.proofs.look_at.Statement.{statement}
 use Rattle.solid.proofs.look_at.Tie as tie
 
-module _ (s : Solid) (bytes : List ℕ) (p : Vector) {r : Bool} (i : r ≡ inBox (box s) p) where
-  outside : r ≡ false → seenAs false (filled s bytes p) ≡ look s bytes p
-  unfolding look
-  outside t = rw (sym i ∙ t)
+rank-fits : tie.Need-rank-of-requires
+rank-fits c κs =
+    let s = c .before .before .before in
+    rank-asks (s .args .p) (s .pre .0) (s .pre .1) (c .before .is-inside .ensures) (c .if1 .taken)
 
-  inside : {f b : Bool} {l : Look} → r ≡ true → f ≡ filled s bytes p → f ≡ b → l ≡ seenAs true b → l ≡ look s bytes p
-  unfolding look
-  inside t e u a = rw (sym i ∙ t, sym e ∙ u) a
+rank-is-held : tie.Need-see-requires
+rank-is-held c κs =
+    let i = c .before .before in
+    let s = i .before .before in
+    let known = rank-known (s .args .p) (s .pre .0) (s .pre .1) (i .is-inside .ensures) (c .before .if1 .taken) (c .rank-of .ensures) in
+    see-asks (s .args .p) (s .pre .0) (s .pre .1) (i .is-inside .ensures) (c .before .if1 .taken) (back w32 _ (c .rank-of .ok) ∙ known)
 
-permitted-and-inside : tie.Need-is-filled-requires
-permitted-and-inside c κs =
-    (c .before .before .before .pre, record { is = sym (c .before .is-inside .ensures) ∙ c .if1 .taken })
+inside : tie.Need-returns
+inside c =
+    let r = c .before in
+    let i = r .before .before in
+    let s = i .before .before in
+    let known = rank-known (s .args .p) (s .pre .0) (s .pre .1) (i .is-inside .ensures) (r .before .if1 .taken) (r .rank-of .ensures) in
+    looked-inside (s .args .p) (s .pre .0) (s .pre .1) (i .is-inside .ensures) (r .before .if1 .taken) (back w32 _ (r .rank-of .ok) ∙ known) (c .see .ensures)
 
 pub look-at-spec : {M : Type 1} → statement M
-look-at-spec =
-    tie.close
-    (tie.spec
-    (λ c κs. search needs) permitted-and-inside
-    (λ c. search inside) (λ c. search inside)
-    (λ c. search outside))
+look-at-spec = tie.close (tie.spec (λ c κs. search needs) rank-fits rank-is-held inside (λ c. search looked-outside))

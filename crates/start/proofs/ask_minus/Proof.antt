@@ -1,4 +1,4 @@
--- `start::ask_minus` meets its contract: minus the unit vector, laid in, is what `ask_falls` asks.
+-- `start::ask_minus` meets its contract: minus the unit vector, laid in, is what `ask_vector` asks.
 use native.Mathlib.Omega.{arith}
 use Rattle.facing.specs.Units.{fitting}
 use Rattle.start.proofs.Axes.{minus-asked}
@@ -8,8 +8,8 @@ use Rattle.start.proofs.ask_minus.Tie as tie
 signs-and-unit-fit : tie.Need-lay-minus-requires
 signs-and-unit-fit c κs = let s = c .before .before in (s .pre .0 .signed, s .pre .1)
 
-ask-falls-requires : tie.Need-ask-falls-requires
-ask-falls-requires c κs =
+ask-vector-requires : tie.Need-ask-vector-requires
+ask-vector-requires c κs =
     let s = c .before .before .before in
     let g = s .pre .0 .signed in
     (s .pre .0, search fitting, omega arith)
@@ -19,4 +19,4 @@ ask-minus-spec =
     tie.close
     (tie.spec
     signs-and-unit-fit
-    ask-falls-requires (λ c. search minus-asked))
+    ask-vector-requires (λ c. search minus-asked))
