@@ -7,13 +7,10 @@ use lib.IntN.{ℤ, pos}
 use lib.Signed.{_<ℤ_, ltZ}
 use Rattle.integers.specs.Order.{parts}
 use Rattle.integers.specs.Sizes.{Within, sizes}
-use Rattle.rules.specs.declared.Vector.{Vector}
 use Rattle.rules.specs.declared.Triangle.{Triangle}
 use Rattle.rules.specs.declared.Pair.{Pair}
 use Rattle.rules.specs.declared.Choice.{Choice}
 use Rattle.rules.specs.declared.Choice.the-variants.{Nothing, Chosen}
-use Rattle.rules.specs.Vectors.{_⊖_, dot}
-use Rattle.rules.specs.Walk.{first, second, inside}
 use Rattle.laws.specs.Tests.{less}
 use Rattle.laws.specs.Sphere.{weight, inside-by-weight, weight-fits}
 use Rattle.laws.specs.Choosing.{better}
@@ -22,14 +19,17 @@ use Rattle.choice.specs.Best.{bestOf, pairAt, choiceOf, noWeight, lighte
 use Rattle.choice.specs.Sound.{Sound, all-bounded}
 
 -- ---- numbers of pairs
+pub by-each : (P : ℕ → Type 0) → P 0 → P 1 → P 2 → P 3 → P 4 → P 5 → ((n : ℕ) → P (suc (suc (suc (suc (suc (suc n))))))) → (n : ℕ) → P n
+by-each P a b c d e f g zero = a
+by-each P a b c d e f g (suc zero) = b
+by-each P a b c d e f g (suc (suc zero)) = c
+by-each P a b c d e f g (suc (suc (suc zero))) = d
+by-each P a b c d e f g (suc (suc (suc (suc zero)))) = e
+by-each P a b c d e f g (suc (suc (suc (suc (suc zero))))) = f
+by-each P a b c d e f g (suc (suc (suc (suc (suc (suc n)))))) = g n
+
 pub by-number : (P : ℕ → Type 0) → P 0 → P 1 → P 2 → P 3 → P 4 → P 5 → (n : ℕ) → n < 6 → P n
-by-number P a b c d e f zero h = a
-by-number P a b c d e f (suc zero) h = b
-by-number P a b c d e f (suc (suc zero)) h = c
-by-number P a b c d e f (suc (suc (suc zero))) h = d
-by-number P a b c d e f (suc (suc (suc (suc zero)))) h = e
-by-number P a b c d e f (suc (suc (suc (suc (suc zero))))) h = f
-by-number P a b c d e f (suc (suc (suc (suc (suc (suc n)))))) h = absurd (omega arith)
+by-number P a b c d e f = by-each (λ n. n < 6 → P n) (λ h. a) (λ h. b) (λ h. c) (λ h. d) (λ h. e) (λ h. f) (λ n h. absurd (omega arith))
 
 pub chosen-at : (n : ℕ) → n < 6 → choiceOf n ≡ Chosen (pairAt n)
 chosen-at = by-number (λ n. choiceOf n ≡ Chosen (pairAt n)) refl refl refl refl refl refl
@@ -68,5 +68,5 @@ module _ {m : Triangle} (s : Sound m) where
         go false i = record { is = sym i; weighs = h }
 
     -- as the code comes to it
-    pub prefers : {sofar next r : Best} {k l w : Vector} → Weighs m sofar → k ≡ first m (pairAt y) → l ≡ second m (pairAt y) → w ≡ l ⊖ k → next ≡ bestOf y (dot l w) → r ≡ lighter sofar next → Preferred m sofar y r
-    prefers h i j e p q = rw (q, p, e, i, j) (lighter-preferred h)
+    pub prefers : {sofar next r : Best} {w : ℤ} → Weighs m sofar → w ≡ weight m (pairAt y) → next ≡ bestOf y w → r ≡ lighter sofar next → Preferred m sofar y r
+    prefers h e p q = rw (q, p, e) (lighter-preferred h)

@@ -15,15 +15,18 @@ use Rattle.round.specs.Corners.{index}
 use Rattle.round.specs.Round.{asksBit, Skips}
 
 pub first-is : (n : ℕ) → n < 6 → n / 2 ≡ index (from (pairAt n))
+unfolding index
 first-is = by-number (λ n. n / 2 ≡ index (from (pairAt n))) refl refl refl refl refl refl
 
 -- l is n % 2 where that is below k, else one more
 pub second-low : (n : ℕ) → n < 6 → n % 2 < n / 2 → n % 2 ≡ index (to (pairAt n))
+unfolding index
 second-low =
     by-number (λ n. n % 2 < n / 2 → n % 2 ≡ index (to (pairAt n)))
     (λ h. absurd (omega arith)) (λ h. absurd (omega arith)) (λ h. refl) (λ h. absurd (omega arith)) (λ h. refl) (λ h. refl)
 
 pub second-high : (n : ℕ) → n < 6 → n / 2 ≤ n % 2 → n % 2 + 1 ≡ index (to (pairAt n))
+unfolding index
 second-high =
     by-number (λ n. n / 2 ≤ n % 2 → n % 2 + 1 ≡ index (to (pairAt n)))
     (λ h. refl) (λ h. refl) (λ h. absurd (omega arith)) (λ h. refl) (λ h. absurd (omega arith)) (λ h. absurd (omega arith))

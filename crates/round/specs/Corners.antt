@@ -3,15 +3,12 @@ use mathlib.Core.Path.{_≡_, refl, sym, ap, _∙_}
 use mathlib.Core.List.{List, [], _∷_}
 use Prim.Native.Nat.{ℕ, _+_, _*_, _<_}
 use native.Mathlib.Omega.{arith}
-use lib.Dec.{lit≤}
 use lib.IntN.{ℤ, pos, _-ℤ_}
 use lib.ListN.{length, getD, set, length-set}
-use Rattle.integers.specs.Sizes.{Within, within-is, within-wider, within-sum, within-product}
+use Rattle.integers.specs.Sizes.{Within, within-is}
 use Rattle.rules.specs.declared.Vector.{Vector}
 use Rattle.rules.specs.declared.Triangle.{Triangle}
 use Rattle.rules.specs.declared.Pair.{Pair}
-use Rattle.rules.specs.declared.Solid.{Solid}
-use Rattle.rules.specs.declared.Solid.the-variants.{Wedge as IsWedge, Stack as IsStack}
 use Rattle.rules.specs.Vectors.{vector, _⊖_, dot, lay}
 use Rattle.rules.specs.Walk.{Axis, axis0, axis1, axis2, triangle, laid, vectorOf, withVector, from, to, first, second, way, step}
 use Rattle.laws.specs.Parts.{dot-difference}
@@ -19,13 +16,14 @@ use Rattle.laws.specs.Triples.{all-of}
 use Rattle.laws.specs.Frames.{Signs, lay-lay, lay-dot, lay-difference}
 use Rattle.laws.specs.Bounds.{Bounded, bounded-is, bounded-lay}
 use Rattle.laws.specs.Sphere.{weight}
-use Rattle.solid.specs.Grid.{ranksOf, gridOf}
+use Rattle.solid.specs.Grid.{ranksOf}
+use Rattle.solid.specs.Ranks.{rank-within}
 use Rattle.falls.specs.declared.Scene.{Scene}
 use Rattle.falls.specs.Scene.{Ready}
-use Rattle.falls.specs.Sizes.{signs-bounded, grid-ranks}
+use Rattle.falls.specs.Sizes.{signs-bounded}
 use Rattle.choice.specs.Sound.{Sound, all-bounded}
 
-abbrev pub index : Axis → ℕ
+unfoldable pub index : Axis → ℕ
 index axis0 = 0
 index axis1 = 1
 index axis2 = 2
@@ -64,15 +62,17 @@ pub record Ranked (r : Vector) (ms : List ℤ) : Type 0 where
 -- so small that differences fit
 pub record Small (ms : List ℤ) : Type 0 where
   pub corners : (k : Axis) → Bounded 1023 (cornerAt ms (index k))
-  pub ranks : (k : Axis) → Within 100000000 (rankAt ms (index k))
+  pub ranks : (k : Axis) → Within 69089328 (rankAt ms (index k))
 
 -- ---- what an axis names
 pub index-below : {i : ℕ} (k : Axis) → i ≡ index k → i < 3
+unfolding index
 index-below axis0 e = omega arith
 index-below axis1 e = omega arith
 index-below axis2 e = omega arith
 
 corner-of : (s : Vector) (ms : List ℤ) (k : Axis) → vectorOf (triangleIn s ms) k ≡ lay s (cornerAt ms (index k))
+unfolding index
 corner-of s ms axis0 = refl
 corner-of s ms axis1 = refl
 corner-of s ms axis2 = refl
@@ -96,6 +96,7 @@ module _ {s : Vector} (ms : List ℤ) (g : Signs s) where
 -- ---- ranks
 module _ {r : Vector} {ms : List ℤ} (h : Ranked r ms) where
   rank-of : (k : Axis) → rankAt ms (index k) ≡ dot r (cornerAt ms (index k))
+  unfolding index
   rank-of axis0 = h .rank0
   rank-of axis1 = h .rank1
   rank-of axis2 = h .rank2
@@ -104,37 +105,31 @@ module _ {r : Vector} {ms : List ℤ} (h : Ranked r ms) where
   pub rank-difference : (k l : Axis) → rankAt ms (index k) -ℤ rankAt ms (index l) ≡ dot r (cornerAt ms (index k) ⊖ cornerAt ms (index l))
   rank-difference k l = (λ i. rank-of k i -ℤ rank-of l i) ∙ sym (dot-difference r (cornerAt ms (index k)) (cornerAt ms (index l)))
 
-module _ {v : Scene} {bytes : List ℕ} (ready : Ready v bytes) where
-  ranks-are : (solid : Solid) → gridOf solid .ranks ≡ ranksOf solid
-  ranks-are (IsWedge w) = refl
-  ranks-are (IsStack k) = refl
-
-  rank-bounded : {a : Vector} → Bounded 1023 a → Within 100000000 (dot (ranksOf (v .solid)) a)
-  unfolding dot
-  rank-bounded {a} h =
-      let g = grid-ranks ready in
-      rw (← ranks-are (v .solid), ← ready .gridded) (within-wider (within-sum (within-sum (within-product (g .in-x) (h .in-x)) (within-product (g .in-y) (h .in-y))) (within-product (g .in-z) (h .in-z))) (lit≤ tt))
-
-  pub small : (ms : List ℤ) → Sound (triangleIn (v .signs) ms) → Ranked (ranksOf (v .solid)) ms → Small ms
-  small ms h k = let c = corners-bounded ms (ready .signed) h in record { corners = c; ranks = λ a. within-is (rank-of k a) (rank-bounded (c a)) }
+-- ranks of a sound triangle are small
+pub small : {v : Scene} {bytes : List ℕ} (ms : List ℤ) → Ready v bytes → Sound (triangleIn (v .signs) ms) → Ranked (ranksOf (v .solid)) ms → Small ms
+small {v} ms ready h k =
+    let c = corners-bounded ms (ready .signed) h in
+    record { corners = c; ranks = λ a. within-is (rank-of k a) (rank-within (v .solid) (ready .permitted) (c a)) }
 
 -- ---- a step of the array: of twelve numbers everything computes
-by-four : {n : ℕ} (P : List ℤ → Type 0) → ((a b c d : ℤ) (ms : List ℤ) → length ms ≡ n → P (a ∷ b ∷ c ∷ d ∷ ms)) → (ms : List ℤ) → length ms ≡ 4 + n → P ms
-by-four P h [] e = absurd (omega arith)
-by-four P h (a ∷ []) e = absurd (omega arith)
-by-four P h (a ∷ b ∷ []) e = absurd (omega arith)
-by-four P h (a ∷ b ∷ c ∷ []) e = absurd (omega arith)
-by-four P h (a ∷ b ∷ c ∷ d ∷ ms) e = h a b c d ms (omega arith)
+by-four : (n : ℕ) (P : List ℤ → Type 0) → ((a b c d : ℤ) (ms : List ℤ) → length ms ≡ n → P (a ∷ b ∷ c ∷ d ∷ ms)) → (ms : List ℤ) → length ms ≡ 4 + n → P ms
+by-four n P h [] e = absurd (omega arith)
+by-four n P h (a ∷ []) e = absurd (omega arith)
+by-four n P h (a ∷ b ∷ []) e = absurd (omega arith)
+by-four n P h (a ∷ b ∷ c ∷ []) e = absurd (omega arith)
+by-four n P h (a ∷ b ∷ c ∷ d ∷ ms) e = h a b c d ms (omega arith)
 
 by-twelve : (P : List ℤ → Type 0) → ((a b c d e f g h i j k l : ℤ) (ms : List ℤ) → P (a ∷ b ∷ c ∷ d ∷ e ∷ f ∷ g ∷ h ∷ i ∷ j ∷ k ∷ l ∷ ms)) → (ms : List ℤ) → length ms ≡ 12 → P ms
-by-twelve P p = by-four P (λ a b c d. by-four (λ ms. P (a ∷ b ∷ c ∷ d ∷ ms)) (λ e f g h. by-four (λ ms. P (a ∷ b ∷ c ∷ d ∷ e ∷ f ∷ g ∷ h ∷ ms)) (λ i j k l ms z. p a b c d e f g h i j k l ms)))
+by-twelve P p = by-four 8 P (λ a b c d. by-four 4 (λ ms. P (a ∷ b ∷ c ∷ d ∷ ms)) (λ e f g h. by-four 0 (λ ms. P (a ∷ b ∷ c ∷ d ∷ e ∷ f ∷ g ∷ h ∷ ms)) (λ i j k l ms z. p a b c d e f g h i j k l ms)))
 
 put-corners : (k : Axis) (a : Vector) (z : ℤ) (ms : List ℤ) → length ms ≡ 12 → cornersIn (putAt ms (index k) a z) ≡ withVector (cornersIn ms) k a
+unfolding index
 put-corners axis0 a z = by-twelve (λ ms. cornersIn (putAt ms 0 a z) ≡ withVector (cornersIn ms) axis0 a) (λ b c d e f g h i j k l m ms. refl)
 put-corners axis1 a z = by-twelve (λ ms. cornersIn (putAt ms 1 a z) ≡ withVector (cornersIn ms) axis1 a) (λ b c d e f g h i j k l m ms. refl)
 put-corners axis2 a z = by-twelve (λ ms. cornersIn (putAt ms 2 a z) ≡ withVector (cornersIn ms) axis2 a) (λ b c d e f g h i j k l m ms. refl)
 
 put-ranked : {r : Vector} (a : Vector) {z : ℤ} → z ≡ dot r a → (k : Axis) (ms : List ℤ) → length ms ≡ 12 → Ranked r ms → Ranked r (putAt ms (index k) a z)
+unfolding index
 put-ranked {r} a {z} q axis0 = by-twelve (λ ms. Ranked r ms → Ranked r (putAt ms 0 a z)) (λ b c d e f g h i j k l m ms p. record { rank0 = q; rank1 = p .rank1; rank2 = p .rank2 })
 put-ranked {r} a {z} q axis1 = by-twelve (λ ms. Ranked r ms → Ranked r (putAt ms 1 a z)) (λ b c d e f g h i j k l m ms p. record { rank0 = p .rank0; rank1 = q; rank2 = p .rank2 })
 put-ranked {r} a {z} q axis2 = by-twelve (λ ms. Ranked r ms → Ranked r (putAt ms 2 a z)) (λ b c d e f g h i j k l m ms p. record { rank0 = p .rank0; rank1 = p .rank1; rank2 = q })

@@ -2,3 +2,4 @@
 pub mod Flags
 pub mod Corners
 pub mod Round
+pub mod Settled

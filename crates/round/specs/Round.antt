@@ -9,12 +9,15 @@ use Rattle.rules.specs.declared.Levels.{Levels}
 use Rattle.rules.specs.declared.Triangle.{Triangle}
 use Rattle.rules.specs.declared.Pair.{Pair}
 use Rattle.rules.specs.declared.Choice.{Choice}
+use Rattle.rules.specs.Vectors.{dot}
 use Rattle.rules.specs.Asked.{Asked, answered, _>>=_}
 use Rattle.rules.specs.Walk.{pairs, only, takesPart, Probe, falling, round}
 use Rattle.laws.specs.Choosing.{best}
 use Rattle.laws.specs.Tally.{Tally, yes, no, tally, Gives, mostLooks}
+use Rattle.falls.specs.declared.Falls.{Falls}
+use Rattle.falls.specs.declared.Falls.the-variants.{Fell, Kept, Stopped as Stops}
 use Rattle.choice.specs.declared.Best.{Best}
-use Rattle.choice.specs.Best.{pairAt, choiceOf}
+use Rattle.choice.specs.Best.{bestOf, pairAt, choiceOf, lighter}
 use Rattle.choice.specs.Lighter.{Weighs}
 use Rattle.round.specs.declared.Round.{Round}
 use Rattle.round.specs.declared.Round.the-variants.{Asked as IsAsked, Stopped}
@@ -30,6 +33,12 @@ roundLooks (Stopped p n) = n
 abbrev pub Weighed : Triangle → Round → Type 0
 Weighed m (IsAsked k n) = Weighs m k
 Weighed m (Stopped p n) = Unit {0}
+
+-- what the answer f makes of the best so far: the pair of the number x, where b is m_l and w the way
+abbrev pub settled : ℕ → Best → Vector → Vector → Falls → Round
+settled x k b w (Fell n) = IsAsked (lighter k (bestOf x (dot b w))) n
+settled x k b w (Kept n) = IsAsked k n
+settled x k b w (Stops p n) = Stopped p n
 
 -- ---- the pairs that take part
 abbrev pub taking : Levels → List Pair → List Pair

@@ -3,6 +3,7 @@ ghost use mathlib.Core.Path.{_≡_};
 ghost use Prim.Native.Nat.{_<_};
 ghost use lib.IntN.{_-ℤ_};
 ghost use Rattle.rules.specs.Walk.{from, to};
+ghost use Rattle.laws.specs.Bounds.{Bounded};
 ghost use Rattle.laws.specs.Tally.{Countable};
 ghost use Rattle.solid.specs.Grid.{ranksOf};
 ghost use Rattle.falls.specs.Scene.{probeOf, Ready};
@@ -10,7 +11,7 @@ ghost use Rattle.choice.specs.Best.{pairAt};
 ghost use Rattle.choice.specs.Sound.{Sound};
 ghost use Rattle.choice.specs.Lighter.{Weighs};
 ghost use Rattle.round.specs.Corners.{index, cornerAt, rankAt, putAt, stepped, triangleIn, Ranked, Small};
-ghost use Rattle.round.specs.Round.{Skips, asksBit, WayAsked, RoundAsked};
+ghost use Rattle.round.specs.Round.{Skips, asksBit, settled, WayAsked, RoundAsked};
 use choice::Best;
 use falls::Falls;
 use falls::Scene;
@@ -113,6 +114,18 @@ fn takes_part(skip: u32, pair: u32) -> bool
 
 // ---- the round
 
+// What the answer makes of the best so far: a pair that fell is weighed, where b is m_l and w the way.
+fn settle(pair: u32, best: Best, b: Vector, w: Vector, f: Falls) -> Round
+    requires { ⌜ Bounded 10000 b × Bounded 10000 w ⌝ }
+    ensures { λ r. ⌜ r ≡ settled pair best b w f ⌝ }
+{
+    match f {
+        Falls::Fell(n) => Round::Asked(choice::prefer(best, choice::weigh(pair, b, w)), n),
+        Falls::Kept(n) => Round::Asked(best, n),
+        Falls::Stopped(p, n) => Round::Stopped(p, n),
+    }
+}
+
 // A pair that takes part, after those of which `best` is the best. The way's rank is the difference of the vectors' ranks.
 fn ask_way(scene: Scene, bytes: &[u8], m: &[i32; 12], pair: u32, best: Best, looks: u32) -> Round
     requires { ⌜ Ready scene (now bytes) × Sound (triangleIn (scene .signs) (now m)) × Ranked (ranksOf (scene .solid)) (now m) × (pair < 6) × Weighs (triangleIn (scene .signs) (now m)) best × Countable 1 looks ⌝ }
@@ -124,11 +137,7 @@ fn ask_way(scene: Scene, bytes: &[u8], m: &[i32; 12], pair: u32, best: Best, loo
     let w = space::subtract(b, corner(m, k));
     let rise = rank(m, l) - rank(m, k);
     let f = falls::ask_falls(scene, bytes, w, rise, looks);
-    match f {
-        Falls::Fell(n) => Round::Asked(choice::prefer(best, choice::weigh(pair, b, w)), n),
-        Falls::Kept(n) => Round::Asked(best, n),
-        Falls::Stopped(p, n) => Round::Stopped(p, n),
-    }
+    settle(pair, best, b, w, f)
 }
 
 // All pairs that take part, even after one has fallen. One call in a loop and not six: so the question is compiled in place.
