@@ -5,7 +5,7 @@ use Prim.Native.Nat.{ℕ}
 use lib.IntN.{ℤ}
 use lib.Signed.{ltZ}
 use mir.Syntax.{w32}
-use mir.Val.{SFits, toZ, ofZ}
+use mir.Val.{SFits}
 use mir.Facts.{toZ-ofZ}
 use Rattle.integers.specs.Machine.{bounded-stands, read-back}
 use Rattle.rules.specs.declared.Vector.{Vector}
@@ -13,10 +13,7 @@ use Rattle.rules.specs.Vectors.{dot}
 use Rattle.laws.specs.Bounds.{Bounded, within-dot}
 use Rattle.choice.specs.declared.Best.{Best}
 use Rattle.choice.specs.Best.{bestOf, lighter}
-
--- a number of the code, read back from its bits
-abbrev fromBits : ℤ → ℤ
-fromBits z = toZ w32 (ofZ w32 z)
+use Rattle.choice.specs.Numbers.{fromBits}
 
 pub weight-read : (x : ℕ) {r : ℤ} {l w : Vector} → Bounded 10000 l → Bounded 10000 w → r ≡ dot l w → bestOf x (fromBits r) ≡ bestOf x (dot l w)
 weight-read x h k e = ap (bestOf x) (ap fromBits e ∙ read-back w32 (bounded-stands (within-dot h k)) tt)

@@ -1,7 +1,7 @@
 -- Keeping the lighter pair is document 01's choice: strictly inside is a smaller weight, since the triangle's determinant is 1. While none fell every pair is lighter, since a triangle within 1023 has no weight so high.
 use mathlib.Core.Path.{_≡_, refl, sym, ap, _∙_}
 use mathlib.Core.Bool.{Bool, true, false}
-use Prim.Native.Nat.{ℕ, zero, suc, _≤_, _<_}
+use Prim.Native.Nat.{ℕ, _≤_, _<_}
 use native.Mathlib.Omega.{arith}
 use lib.IntN.{ℤ, pos}
 use lib.Signed.{_<ℤ_, ltZ}
@@ -16,23 +16,8 @@ use Rattle.laws.specs.Sphere.{weight, inside-by-weight, weight-fits}
 use Rattle.laws.specs.Choosing.{better}
 use Rattle.choice.specs.declared.Best.{Best}
 use Rattle.choice.specs.Best.{bestOf, pairAt, choiceOf, noWeight, lighter}
+use Rattle.choice.specs.Numbers.{chosen-at}
 use Rattle.choice.specs.Sound.{Sound, all-bounded}
-
--- ---- numbers of pairs
-pub by-each : (P : ℕ → Type 0) → P 0 → P 1 → P 2 → P 3 → P 4 → P 5 → ((n : ℕ) → P (suc (suc (suc (suc (suc (suc n))))))) → (n : ℕ) → P n
-by-each P a b c d e f g zero = a
-by-each P a b c d e f g (suc zero) = b
-by-each P a b c d e f g (suc (suc zero)) = c
-by-each P a b c d e f g (suc (suc (suc zero))) = d
-by-each P a b c d e f g (suc (suc (suc (suc zero)))) = e
-by-each P a b c d e f g (suc (suc (suc (suc (suc zero))))) = f
-by-each P a b c d e f g (suc (suc (suc (suc (suc (suc n)))))) = g n
-
-pub by-number : (P : ℕ → Type 0) → P 0 → P 1 → P 2 → P 3 → P 4 → P 5 → (n : ℕ) → n < 6 → P n
-by-number P a b c d e f = by-each (λ n. n < 6 → P n) (λ h. a) (λ h. b) (λ h. c) (λ h. d) (λ h. e) (λ h. f) (λ n h. absurd (omega arith))
-
-pub chosen-at : (n : ℕ) → n < 6 → choiceOf n ≡ Chosen (pairAt n)
-chosen-at = by-number (λ n. choiceOf n ≡ Chosen (pairAt n)) refl refl refl refl refl refl
 
 -- the weight of a choice
 abbrev pub bestWeight : Triangle → Choice → ℤ

@@ -30,7 +30,7 @@ scene-ranks {v} h = rw (h .gridded) (ranks-small (v .solid) (h .permitted))
 pub scene-rank : {v : Scene} {bytes : List ℕ} (u : Vector) {z : ℤ} → Ready v bytes → z ≡ dot (v .grid .ranks) u → z ≡ dot (ranksOf (v .solid)) u
 scene-rank {v} u h e = e ∙ ap (λ (r : Vector). dot r u) (ap (λ (g : Grid). g .ranks) (h .gridded) ∙ ranks-are (v .solid))
 
-sign-bounded : (z : ℤ) → IsSign z → Within 1 z
+pub sign-bounded : (z : ℤ) → IsSign z → Within 1 z
 sign-bounded z (inl e) = within-is e (within-literal (pos 1))
 sign-bounded z (inr e) = within-is e (within-literal (negsuc 0))
 

@@ -5,7 +5,7 @@ use Prim.Native.Nat.{ℕ}
 use lib.Dec.{lit≤}
 use lib.IntN.{ℤ, _-ℤ_}
 use mir.Syntax.{w32}
-use mir.Val.{SFits, toZ, ofZ}
+use mir.Val.{SFits}
 use Rattle.integers.specs.Machine.{machine, fits, value}
 use Rattle.integers.specs.Sizes.{Within, within-is}
 use Rattle.rules.specs.declared.Vector.{Vector}
@@ -13,11 +13,8 @@ use Rattle.rules.specs.declared.Pair.{Pair}
 use Rattle.rules.specs.Vectors.{_⊖_, dot}
 use Rattle.rules.specs.Walk.{Axis, from, to}
 use Rattle.laws.specs.Bounds.{Bounded, bounded-is, bounded-wider, bounded-difference}
+use Rattle.choice.specs.Numbers.{fromBits}
 use Rattle.round.specs.Corners.{index, cornerAt, rankAt, putAt, stepped, Ranked, Small, rank-difference}
-
--- a number of the code, read back from its bits
-abbrev fromBits : ℤ → ℤ
-fromBits z = toZ w32 (ofZ w32 z)
 
 -- a vector of the array, and a difference of two
 pub corner-fits : {ms : List ℤ} (a : Axis) {k : ℕ} {u : Vector} → Small ms → k ≡ index a → u ≡ cornerAt ms k → Bounded 2046 u

@@ -64,6 +64,9 @@ pub record Small (ms : List ℤ) : Type 0 where
   pub corners : (k : Axis) → Bounded 1023 (cornerAt ms (index k))
   pub ranks : (k : Axis) → Within 69089328 (rankAt ms (index k))
 
+pub laid-laid : (s : Vector) (m : Triangle) → Signs s → laid s (laid s m) ≡ m
+laid-laid s m g = λ i. triangle (lay-lay s (m .m0) g i) (lay-lay s (m .m1) g i) (lay-lay s (m .m2) g i)
+
 -- ---- what an axis names
 pub index-below : {i : ℕ} (k : Axis) → i ≡ index k → i < 3
 unfolding index

@@ -13,7 +13,8 @@ use Rattle.laws.specs.Tally.{Tally, yes, no, gives-settled}
 use Rattle.round.specs.declared.Round.{Round}
 use Rattle.round.specs.declared.Round.the-variants.{Asked as IsAsked, Stopped}
 use Rattle.choice.specs.Best.{bestOf, choiceOf}
-use Rattle.choice.specs.Lighter.{by-each, bestWeight}
+use Rattle.choice.specs.Numbers.{by-each}
+use Rattle.choice.specs.Lighter.{bestWeight}
 use Rattle.round.specs.Round.{roundTally, Weighed, RoundAsked}
 
 numberOf : Choice → ℕ

@@ -10,12 +10,13 @@ ghost use Rattle.falls.specs.Scene.{probeOf, Ready};
 ghost use Rattle.choice.specs.Best.{pairAt};
 ghost use Rattle.choice.specs.Sound.{Sound};
 ghost use Rattle.choice.specs.Lighter.{Weighs};
-ghost use Rattle.round.specs.Corners.{index, cornerAt, rankAt, putAt, stepped, triangleIn, Ranked, Small};
+ghost use Rattle.round.specs.Corners.{index, cornerAt, rankAt, putAt, stepped, cornersIn, triangleIn, Ranked, Small};
 ghost use Rattle.round.specs.Round.{Skips, asksBit, settled, WayAsked, RoundAsked};
 use choice::Best;
 use falls::Falls;
 use falls::Scene;
 use rules::Levels;
+use rules::Triangle;
 use rules::Vector;
 
 // The best so far, or the point outside at which the round stopped; each with the looks so far.
@@ -47,7 +48,7 @@ fn second_of(pair: u32) -> u32
 // ---- the triangle, laid in: x, y, z and the rank of m0, then of m1, then of m2
 
 // m_k
-pub fn corner(m: &[i32; 12], k: u32) -> Vector
+fn corner(m: &[i32; 12], k: u32) -> Vector
     requires { ⌜ k < 3 ⌝ }
     ensures { λ r. ⌜ r ≡ cornerAt (now (m .entry)) k ⌝ }
 {
@@ -56,6 +57,19 @@ pub fn corner(m: &[i32; 12], k: u32) -> Vector
     let y = m[(i + 1) as usize];
     let z = m[(i + 2) as usize];
     Vector { x: x, y: y, z: z }
+}
+
+pub fn triangle_of(m: &[i32; 12]) -> Triangle
+    ensures { λ r. ⌜ r ≡ cornersIn (now (m .entry)) ⌝ }
+{
+    let a = corner(m, 0);
+    let b = corner(m, 1);
+    let c = corner(m, 2);
+    Triangle {
+        m0: a,
+        m1: b,
+        m2: c,
+    }
 }
 
 fn rank(m: &[i32; 12], k: u32) -> i32
