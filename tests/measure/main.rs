@@ -7,6 +7,7 @@
 mod answers;
 #[path = "../shared/chance.rs"]
 mod chance;
+mod growth;
 #[cfg(target_arch = "x86_64")]
 mod library;
 #[cfg(not(target_arch = "x86_64"))]
@@ -282,6 +283,23 @@ fn displays(rows: &mut Vec<Timed>) {
     ));
 }
 
+/// Reach 8 to 256, the accepted ones of as many slopes each.
+fn print_growth() {
+    println!("\n| reach | accepted of {} | steps | looks | library | tuned Rust |", growth::TRIED);
+    println!("|---|---|---|---|---|---|");
+    for reach in [8, 16, 32, 64, 128, 256] {
+        let grown = growth::grown(reach);
+        let (count, steps, looks) = (grown.accepted.len(), grown.steps, grown.looks);
+        if count == 0 {
+            println!("| {reach} | 0 | | | | |");
+            continue;
+        }
+        let row = timed_wedges("growth", &grown.accepted, library::pick_wedge, tuned::pick_wedge);
+        let (ours, theirs) = (told(row.library), told(row.tuned));
+        println!("| {} | {count} | {steps:.1} | {looks:.0} | {ours} | {theirs} |", grown.reach);
+    }
+}
+
 fn machine() -> String {
     let told = std::process::Command::new("lscpu").output();
     let text = told.map_or(String::new(), |told| String::from_utf8_lossy(&told.stdout).into());
@@ -331,4 +349,5 @@ fn main() {
     }
     print_slowest("worst pick", "picks", &rows);
     print_slowest("worst touch", "touches", &rows);
+    print_growth();
 }

@@ -1,5 +1,5 @@
 -- Sizes of what a scene holds: the apex lies in the box, the grid's ranks are small, and a sign's size is 1.
-use mathlib.Core.Path.{_≡_, ap, _∙_}
+use mathlib.Core.Path.{_≡_}
 use mathlib.Core.Logic.{inl, inr}
 use mathlib.Core.List.{List}
 use Prim.Native.Nat.{ℕ}
@@ -10,10 +10,9 @@ use Rattle.rules.specs.declared.Vector.{Vector}
 use Rattle.rules.specs.Vectors.{dot}
 use Rattle.laws.specs.Frames.{IsSign, Signs}
 use Rattle.laws.specs.Bounds.{Bounded, bounded-wider}
-use Rattle.solid.specs.declared.Grid.{Grid}
 use Rattle.solid.specs.Grid.{ranksOf, GridRanks}
 use Rattle.solid.specs.Facts.{inside-bounded}
-use Rattle.solid.specs.Ranks.{ranks-are, ranks-small}
+use Rattle.solid.specs.Ranks.{rank-by-grid, ranks-small}
 use Rattle.falls.specs.declared.Scene.{Scene}
 use Rattle.falls.specs.Scene.{Ready}
 
@@ -28,7 +27,7 @@ scene-ranks {v} h = rw (h .gridded) (ranks-small (v .solid) (h .permitted))
 
 -- a rank by the scene's grid is one by its solid
 pub scene-rank : {v : Scene} {bytes : List ℕ} (u : Vector) {z : ℤ} → Ready v bytes → z ≡ dot (v .grid .ranks) u → z ≡ dot (ranksOf (v .solid)) u
-scene-rank {v} u h e = e ∙ ap (λ (r : Vector). dot r u) (ap (λ (g : Grid). g .ranks) (h .gridded) ∙ ranks-are (v .solid))
+scene-rank {v} u h e = rank-by-grid (v .solid) u (h .gridded) e
 
 pub sign-bounded : (z : ℤ) → IsSign z → Within 1 z
 sign-bounded z (inl e) = within-is e (within-literal (pos 1))

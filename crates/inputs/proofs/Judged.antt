@@ -8,7 +8,7 @@ use lib.IntN.{ℤ, pos, natAbs}
 use Rattle.rules.specs.declared.Vector.{Vector}
 use Rattle.rules.specs.declared.Solid.{Solid}
 use Rattle.rules.specs.declared.Refused.{Refused}
-use Rattle.rules.specs.Vectors.{_⊕_, origin}
+use Rattle.rules.specs.Vectors.{_⊕_, dot, origin}
 use Rattle.rules.specs.Solids.{between, permitted, box, inBox, look}
 use Rattle.rules.specs.Asked.{Asked}
 use Rattle.rules.specs.Walk.{Stop, stop, signs, Probe}
@@ -18,7 +18,10 @@ use Rattle.laws.specs.Bounds.{Bounded, bounded-is, bounded-wider}
 use Rattle.laws.specs.Boxes.{look-inside}
 use Rattle.laws.specs.Tally.{Tally, yes, no, Gives, then-yes, then-no, ensured, not-ensured}
 use Rattle.solid.specs.Asks.{PermittedSolid}
+use Rattle.solid.specs.declared.Grid.{Grid}
+use Rattle.solid.specs.Grid.{ranksOf, gridOf, sidesOf, GridRanks}
 use Rattle.solid.specs.Facts.{inside-bounded}
+use Rattle.solid.specs.Ranks.{in-box-by-grid, rank-by-grid, ranks-small}
 use Rattle.falls.specs.Sizes.{signs-bounded}
 use Rattle.falls.specs.Scene.{probeOf}
 use Rattle.walk.specs.Walk.{refusalOf}
@@ -86,34 +89,39 @@ apex-is begin frame hs hq = hq ∙ ap (apexOf begin) hs
 inside-is : (solid : Solid) (bytes : List ℕ) {a q : Vector} {b t : Bool} → q ≡ a → b ≡ inBox (box solid) q → b ≡ t → isInside (look solid bytes a) ≡ t
 inside-is solid bytes {q = q} e h g = rw (← e) (look-inside solid bytes q ∙ sym h ∙ g)
 
+-- the apex is in the box, so its rank fits
+pub rank-asks : {solid : Solid} {bytes : List ℕ} {grid : Grid} (q : Vector) {b : Bool} → PermittedSolid solid bytes → grid ≡ gridOf solid → b ≡ inBox (sidesOf grid) q → b ≡ true → GridRanks grid × Bounded 10000 q
+rank-asks {solid} q ok hg hb g = (rw hg (ranks-small solid ok), bounded-wider (inside-bounded ok (record { is = sym (in-box-by-grid q ok hg hb) ∙ g })) (lit≤ tt))
+
 -- the start is in the box, so q = p + s fits
-pub sum-fits : {solid : Solid} {bytes : List ℕ} (begin : Begin) (frame : ℕ) {p s : Vector} {a : Bool}
-    → PermittedSolid solid bytes → p ≡ startOf begin → a ≡ inBox (box solid) p → a ≡ true → s ≡ signs frame → Bounded 1000000000 (startOf begin) × Bounded 1000000000 s
-sum-fits begin frame ok hp ha e hs =
-    (rw (← hp) (bounded-wider (inside-bounded ok (record { is = sym ha ∙ e })) (lit≤ tt)), bounded-is hs (bounded-wider (signs-bounded (signs-are frame)) (lit≤ tt)))
+pub sum-fits : {solid : Solid} {bytes : List ℕ} {grid : Grid} (begin : Begin) (frame : ℕ) {p s : Vector} {a : Bool}
+    → PermittedSolid solid bytes → grid ≡ gridOf solid → p ≡ startOf begin → a ≡ inBox (sidesOf grid) p → a ≡ true → s ≡ signs frame → Bounded 1000000000 (startOf begin) × Bounded 1000000000 s
+sum-fits begin frame {p} ok hg hp ha e hs =
+    (rw (← hp) (bounded-wider (inside-bounded ok (record { is = sym (in-box-by-grid p ok hg ha) ∙ e })) (lit≤ tt)), bounded-is hs (bounded-wider (signs-bounded (signs-are frame)) (lit≤ tt)))
 
-module _ {begin : Begin} {solid : Solid} {bytes : List ℕ} (ok : PermittedSolid solid bytes) {p : Vector} {frame R : ℕ} {a : Bool} (hp : p ≡ startOf begin) (ha : a ≡ inBox (box solid) p) where
+module _ {begin : Begin} {solid : Solid} {bytes : List ℕ} {grid : Grid} (ok : PermittedSolid solid bytes) (hg : grid ≡ gridOf solid) {p : Vector} {frame R : ℕ} {a : Bool} (hp : p ≡ startOf begin) (ha : a ≡ inBox (sidesOf grid) p) where
   pub placed-outside : {r : Refused} → a ≡ false → r ≡ refusalOf 4 p 0 0 → PlacesJudged begin solid bytes frame R (FitRefused r)
-  placed-outside e f = record { gives = rw (f, hp) (start-outside-box (probeOf (sceneOf begin solid frame R) bytes) (startOf begin) (inside-is solid bytes hp ha e)); fits = ap (λ (r : Refused). r .looks) f }
+  placed-outside e f = record { gives = rw (f, hp) (start-outside-box (probeOf (sceneOf begin solid frame R) bytes) (startOf begin) (inside-is solid bytes hp (in-box-by-grid p ok hg ha) e)); fits = ap (λ (r : Refused). r .looks) f }
 
-  module _ {s q : Vector} {b : Bool} (hs : s ≡ signs frame) (hq : q ≡ apexOf begin s) (hb : b ≡ inBox (box solid) q) (e : a ≡ true) where
+  module _ {s q : Vector} {b : Bool} (hs : s ≡ signs frame) (hq : q ≡ apexOf begin s) (hb : b ≡ inBox (sidesOf grid) q) (e : a ≡ true) where
     pub placed-apex-outside : {r : Refused} → b ≡ false → r ≡ refusalOf 4 q 0 0 → PlacesJudged begin solid bytes frame R (FitRefused r)
     placed-apex-outside g f =
         let i = apex-is begin frame hs hq in
-        record { gives = rw (f, i) (apex-outside-box (probeOf (sceneOf begin solid frame R) bytes) (startOf begin) (inside-is solid bytes hp ha e) (inside-is solid bytes i hb g)); fits = ap (λ (r : Refused). r .looks) f }
+        record { gives = rw (f, i) (apex-outside-box (probeOf (sceneOf begin solid frame R) bytes) (startOf begin) (inside-is solid bytes hp (in-box-by-grid p ok hg ha) e) (inside-is solid bytes i (in-box-by-grid q ok hg hb) g)); fits = ap (λ (r : Refused). r .looks) f }
 
-    pub placed-inside : {span : ℕ} → span ≡ spanOf begin R → b ≡ true → R ≤ 256 → PlacesJudged begin solid bytes frame R (FitScene record { solid = solid; apex = q; signs = s; span = span; reach = R })
-    placed-inside hl g h =
+    pub placed-inside : {here : ℤ} {span : ℕ} → here ≡ dot (grid .ranks) q → span ≡ spanOf begin R → b ≡ true → R ≤ 256 → PlacesJudged begin solid bytes frame R (FitScene record { solid = solid; grid = grid; apex = q; here = here; signs = s; span = span; reach = R })
+    placed-inside hh hl g h =
         let i = apex-is begin frame hs hq in
+        let ranked = rank-by-grid solid q hg hh in
         record {
-          gives = both-inside (probeOf (sceneOf begin solid frame R) bytes) (startOf begin) (inside-is solid bytes hp ha e) (inside-is solid bytes i hb g);
+          gives = both-inside (probeOf (sceneOf begin solid frame R) bytes) (startOf begin) (inside-is solid bytes hp (in-box-by-grid p ok hg ha) e) (inside-is solid bytes i (in-box-by-grid q ok hg hb) g);
           fits = (
-            λ j. record { solid = solid; apex = i j; signs = hs j; span = hl j; reach = R },
-            record { permitted = ok; placed = record { is = sym hb ∙ g }; signed = rw hs (signs-are frame); span-high = rw hl (span-high begin R h); reach-high = h },
+            λ j. record { solid = solid; grid = hg j; apex = i j; here = (ranked ∙ ap (dot (ranksOf solid)) i) j; signs = hs j; span = hl j; reach = R },
+            record { permitted = ok; gridded = hg; placed = record { is = sym (in-box-by-grid q ok hg hb) ∙ g }; ranked = ranked; signed = rw hs (signs-are frame); span-high = rw hl (span-high begin R h); reach-high = h },
           );
         }
 
-pub ruleset placing-judged = (placed-outside, placed-apex-outside, placed-inside)
+pub ruleset placing-judged = (placed-outside, placed-apex-outside)
 
 -- ---- the inputs
 module _ {begin : Begin} {solid : Solid} {bytes : List ℕ} {frame reach : ℤ} {a : Bool} (ha : a ≡ between (pos 1) reach (pos 256)) where

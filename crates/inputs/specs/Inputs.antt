@@ -6,12 +6,13 @@ use Prim.Native.Nat.{ℕ}
 use lib.IntN.{ℤ, natAbs}
 use Rattle.rules.specs.declared.Vector.{Vector}
 use Rattle.rules.specs.declared.Solid.{Solid}
-use Rattle.rules.specs.Vectors.{_⊕_}
+use Rattle.rules.specs.Vectors.{_⊕_, dot}
 use Rattle.rules.specs.Solids.{permitted, look}
 use Rattle.rules.specs.Asked.{Asked as Question}
 use Rattle.rules.specs.Walk.{Stop, signs, Probe}
 use Rattle.rules.specs.Pick.{probeFrom, placing, judging}
 use Rattle.laws.specs.Tally.{Tally, yes, Gives}
+use Rattle.solid.specs.Grid.{ranksOf, gridOf}
 use Rattle.falls.specs.declared.Scene.{Scene}
 use Rattle.falls.specs.Scene.{probeOf, Ready}
 use Rattle.walk.specs.Walk.{refusalTally}
@@ -42,7 +43,7 @@ spanOf (Handed d) R = R
 
 -- the scene of these inputs
 abbrev pub sceneOf : Begin → Solid → ℕ → ℕ → Scene
-sceneOf begin solid frame R = record { solid = solid; apex = apexOf begin (signs frame); signs = signs frame; span = spanOf begin R; reach = R }
+sceneOf begin solid frame R = record { solid = solid; grid = gridOf solid; apex = apexOf begin (signs frame); here = dot (ranksOf solid) (apexOf begin (signs frame)); signs = signs frame; span = spanOf begin R; reach = R }
 
 -- where none is refused it is that scene, and every question may be asked in it; no refusal has looks
 abbrev pub FitsTo : Begin → Solid → List ℕ → ℕ → ℕ → Fit → Type 0

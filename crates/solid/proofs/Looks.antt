@@ -17,11 +17,11 @@ use Rattle.solid.specs.declared.Grid.{Grid}
 use Rattle.solid.specs.Asks.{PermittedSolid, InBoxOf}
 use Rattle.solid.specs.Grid.{ranksOf, gridOf, sidesOf, GridRanks, filledAt, RankHeld}
 use Rattle.solid.specs.Facts.{inside-bounded}
-use Rattle.solid.specs.Ranks.{sides-are, ranks-are, ranks-small, rank-in-box, filled-by-rank}
+use Rattle.solid.specs.Ranks.{in-box-by-grid, rank-by-grid, ranks-small, rank-in-box, filled-by-rank}
 
 module _ {s : Solid} {bytes : List ℕ} {g : Grid} (p : Vector) {i : Bool} (ok : PermittedSolid s bytes) (e : g ≡ gridOf s) (h : i ≡ inBox (sidesOf g) p) where
   in-box-is : i ≡ inBox (box s) p
-  in-box-is = h ∙ ap (λ (g : Grid). inBox (sidesOf g) p) e ∙ ap (λ (v : Vector). inBox v p) (sides-are s ok)
+  in-box-is = in-box-by-grid p ok e h
 
   pub looked-outside : i ≡ false → Outside ≡ look s bytes p
   unfolding look
@@ -35,7 +35,7 @@ module _ {s : Solid} {bytes : List ℕ} {g : Grid} (p : Vector) {i : Bool} (ok :
     rank-asks = (rw e (ranks-small s ok), bounded-wider (inside-bounded ok in-box) (lit≤ tt))
 
     pub rank-known : {z : ℤ} → z ≡ dot (g .ranks) p → z ≡ dot (ranksOf s) p
-    rank-known r = r ∙ ap (λ (v : Vector). dot v p) (ap (λ (g : Grid). g .ranks) e ∙ ranks-are s)
+    rank-known r = rank-by-grid s p e r
 
     module _ {z : ℤ} (r : z ≡ dot (ranksOf s) p) where
       pub see-asks : RankHeld s bytes z

@@ -1,17 +1,18 @@
 -- A permitted solid's grid: its sides are the box's, its ranks are small, and a voxel of the box is filled exactly if its rank says so.
-use mathlib.Core.Path.{_≡_, refl, sym}
+use mathlib.Core.Path.{_≡_, refl, sym, ap, _∙_}
+use mathlib.Core.Bool.{Bool}
 use mathlib.Core.List.{List}
 use Prim.Native.Nat.{ℕ, _*_, _≤_}
 use native.Mathlib.Nat.{mul-le-mul}
 use native.Mathlib.Omega.{arith}
 use lib.Dec.{lit≤}
-use lib.IntN.{pos, natAbs}
+use lib.IntN.{ℤ, pos, natAbs}
 use Rattle.integers.specs.Sizes.{Within, within-wider, within-literal, within-sum, within-product}
 use Rattle.rules.specs.declared.Vector.{Vector}
 use Rattle.rules.specs.declared.Solid.{Solid}
 use Rattle.rules.specs.declared.Solid.the-variants.{Wedge as IsWedge, Stack as IsStack}
 use Rattle.rules.specs.Vectors.{vector, dot}
-use Rattle.rules.specs.Solids.{rowBytes, sliceBytes, filledWedge, box, filled}
+use Rattle.rules.specs.Solids.{rowBytes, sliceBytes, filledWedge, box, inBox, filled}
 use Rattle.laws.specs.Bounds.{Bounded}
 use Rattle.stack.specs.Sides.{sized}
 use Rattle.stack.specs.Bits.{stackRanks}
@@ -22,11 +23,14 @@ use Rattle.solid.specs.Grid.{ranksOf, gridOf, sidesOf, GridRanks, filled
 use Rattle.solid.specs.Facts.{wedge-asks}
 
 -- ---- the sides and the ranks
-pub sides-are : (s : Solid) {bytes : List ℕ} → PermittedSolid s bytes → sidesOf (gridOf s) ≡ box s
+sides-are : (s : Solid) {bytes : List ℕ} → PermittedSolid s bytes → sidesOf (gridOf s) ≡ box s
 sides-are (IsWedge w) h = refl
 sides-are (IsStack k) h = let s = sized (h .is) .of in λ i. vector (sym (s .wide .is) i) (sym (s .high .is) i) (sym (s .deep .is) i)
 
-pub ranks-are : (s : Solid) → gridOf s .ranks ≡ ranksOf s
+pub in-box-by-grid : {s : Solid} {bytes : List ℕ} {g : Grid} (p : Vector) {i : Bool} → PermittedSolid s bytes → g ≡ gridOf s → i ≡ inBox (sidesOf g) p → i ≡ inBox (box s) p
+in-box-by-grid {s} p h e i = i ∙ ap (λ (g : Grid). inBox (sidesOf g) p) e ∙ ap (λ (v : Vector). inBox v p) (sides-are s h)
+
+ranks-are : (s : Solid) → gridOf s .ranks ≡ ranksOf s
 ranks-are (IsWedge w) = refl
 ranks-are (IsStack k) = refl
 
@@ -43,6 +47,9 @@ ranks-small (IsStack k) h =
 ranks-within : {g : Grid} {n : ℕ} {v : Vector} → GridRanks g → Bounded n v → Within (67536 * n) (dot (g .ranks) v)
 unfolding dot
 ranks-within g b = within-wider (within-sum (within-sum (within-product (g .in-x) (b .in-x)) (within-product (g .in-y) (b .in-y))) (within-product (g .in-z) (b .in-z))) (omega arith)
+
+pub rank-by-grid : (s : Solid) {g : Grid} (v : Vector) {z : ℤ} → g ≡ gridOf s → z ≡ dot (g .ranks) v → z ≡ dot (ranksOf s) v
+rank-by-grid s v e h = h ∙ ap (λ (r : Vector). dot r v) (ap (λ (g : Grid). g .ranks) e ∙ ranks-are s)
 
 pub rank-within : (s : Solid) {bytes : List ℕ} {n : ℕ} {v : Vector} → PermittedSolid s bytes → Bounded n v → Within (67536 * n) (dot (ranksOf s) v)
 rank-within s h b = rw (ranks-are s) at (ranks-within (ranks-small s h) b)

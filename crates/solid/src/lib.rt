@@ -141,8 +141,7 @@ pub fn look_ranked(s: Solid, g: Grid, bytes: &[u8], p: Vector, rank: i32) -> Loo
     ensures { λ r. ⌜ r ≡ look s (now (bytes .entry)) p ⌝ }
 {
     if is_inside(g, p) {
-        see(s, bytes, rank)
-    } else {
-        Look::Outside
+        return see(s, bytes, rank);
     }
+    Look::Outside
 }

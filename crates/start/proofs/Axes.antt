@@ -1,24 +1,23 @@
--- The axes, one by one: minus the unit vector, and only if it does not fall its opposite. An opposite that falls is refusal 7, a point outside refusal 8;
--- all three level is refusal 7 too.
+-- One axis: minus the unit vector, and only if it does not fall its opposite. An opposite that falls is refusal 7, a point outside refusal 8.
+-- Once all are asked: three level axes are refusal 7 too.
 use mathlib.Core.Path.{_≡_, refl, ap}
 use mathlib.Core.Bool.{Bool, true, false, not, _&&_}
-use Prim.Native.Nat.{ℕ, _+_, _≤_}
+use Prim.Native.Nat.{ℕ}
 use native.Mathlib.Omega.{arith}
 use Rattle.rules.specs.declared.Vector.{Vector}
 use Rattle.rules.specs.declared.Levels.{Levels}
 use Rattle.rules.specs.declared.Refused.{Refused}
-use Rattle.rules.specs.Vectors.{minus, lay, unit0, unit1, unit2}
-use Rattle.rules.specs.Walk.{levels, allLevel, Probe, falls, isLevel, axes}
-use Rattle.laws.specs.Tally.{Gives, mostLooks, then-yes, then-no, asked-yes, asked-no, ensured, not-ensured, at-once}
+use Rattle.rules.specs.Vectors.{minus, lay, unit0}
+use Rattle.rules.specs.Walk.{allLevel, Probe, falls, isLevel}
+use Rattle.laws.specs.Tally.{Gives, then-yes, then-no, asked-yes, asked-no, ensured, not-ensured, at-once}
 use Rattle.falls.specs.declared.Falls.{Falls}
 use Rattle.falls.specs.declared.Falls.the-variants.{Fell, Kept, Stopped}
 use Rattle.falls.specs.Falls.{Fallen, fallsTally, fallsLooks}
 use Rattle.walk.specs.Walk.{refusalOf}
 use Rattle.facing.specs.Facing.{CornerAt}
-use Rattle.start.specs.Start.{axisRefusal, levelsJudged, opposite, Opposed, LevelsJudged, MinusAsked, OppositeAsked, AxisJudged, AxesAsked, axisTally, axisLooks}
+use Rattle.start.specs.Start.{axisRefusal, levelsJudged, opposite, Opposed, LevelsJudged, MinusAsked, OppositeAsked, AxisJudged}
 use Rattle.start.specs.declared.AxisAnswer.{AxisAnswer}
 use Rattle.start.specs.declared.AxisAnswer.the-variants.{Asked as IsAsked, Refused as AxisRefused}
-use Rattle.start.specs.declared.Start.{Start}
 use Rattle.start.specs.declared.Start.the-variants.{Begun, Refused as IsRefused}
 
 abbrev looksIn : Refused → ℕ
@@ -80,48 +79,3 @@ module _ {q s : Vector} (v : Levels) {n : ℕ} where
   pub judged-begun : (v .x && (v .y && v .z)) ≡ false → LevelsJudged q s v n (Begun v n)
   unfolding levelsJudged
   judged-begun t = record { gives = then-yes _ (ensured (axisRefusal q s unit0) (not-all v t)) at-once; few = omega arith }
-
--- ---- the three axes
-module _ (c : Probe) where
-  -- an axis, from its question and the judgement
-  record AxisAsked (e : Vector) (n : ℕ) (r : AxisAnswer) : Type 0 where
-    gives : Gives n (isLevel c e) (axisTally r)
-    few : axisLooks r ≤ n + mostLooks 2
-
-  axis-asked : {e : Vector} {n : ℕ} {f : Falls} {a r : AxisAnswer} → MinusAsked c e n f → AxisJudged c e f a → a ≡ r → AxisAsked e n r
-  axis-asked h g i = record { gives = rw i at (g .gives h); few = omega (arith, h .few, g .few, ap axisLooks i) }
-
-pub axis-few : {c : Probe} {e : Vector} {n : ℕ} {f : Falls} {a : AxisAnswer} {x : Bool} {i : ℕ} → MinusAsked c e n f → AxisJudged c e f a → a ≡ IsAsked x i → i ≤ n + mostLooks 2
-axis-few {c} h g i = axis-asked c h g i .few
-
-module _ {c : Probe} {n : ℕ} {f : Falls} {a : AxisAnswer} (hf : MinusAsked c unit0 n f) (ha : AxisJudged c unit0 f a) where
-  pub first-refused : {r : Refused} → a ≡ AxisRefused r → AxesAsked c n (IsRefused r)
-  unfolding axes
-  first-refused ea = let x = axis-asked c hf ha ea in record { gives = then-no _ (x .gives); few = omega (arith, x .few) }
-
-  module _ {x : Bool} {i : ℕ} {g : Falls} {b : AxisAnswer} (ea : a ≡ IsAsked x i) (hg : MinusAsked c unit1 i g) (hb : AxisJudged c unit1 g b) where
-    pub second-refused : {r : Refused} → b ≡ AxisRefused r → AxesAsked c n (IsRefused r)
-    unfolding axes
-    second-refused eb =
-        let x = axis-asked c hf ha ea in
-        let y = axis-asked c hg hb eb in
-        record { gives = then-yes _ (x .gives) (then-no _ (y .gives)); few = omega (arith, x .few, y .few) }
-
-    module _ {y : Bool} {j : ℕ} {h : Falls} {d : AxisAnswer} (eb : b ≡ IsAsked y j) (hh : MinusAsked c unit2 j h) (hd : AxisJudged c unit2 h d) where
-      pub third-refused : {r : Refused} → d ≡ AxisRefused r → AxesAsked c n (IsRefused r)
-      unfolding axes
-      third-refused ed =
-          let x = axis-asked c hf ha ea in
-          let y = axis-asked c hg hb eb in
-          let z = axis-asked c hh hd ed in
-          record { gives = then-yes _ (x .gives) (then-yes _ (y .gives) (then-no _ (z .gives))); few = omega (arith, x .few, y .few, z .few) }
-
-      pub axes-judged : {z : Bool} {k : ℕ} {r : Start} → d ≡ IsAsked z k → LevelsJudged (c .apex) (c .signs) (levels x y z) k r → AxesAsked c n r
-      unfolding axes levelsJudged
-      axes-judged ed o =
-          let x = axis-asked c hf ha ea in
-          let y = axis-asked c hg hb eb in
-          let z = axis-asked c hh hd ed in
-          record { gives = then-yes _ (x .gives) (then-yes _ (y .gives) (then-yes _ (z .gives) (o .gives))); few = omega (arith, x .few, y .few, z .few, o .few) }
-
-pub ruleset in-turn = (first-refused, second-refused, third-refused, axes-judged)
