@@ -21,9 +21,9 @@ use Rattle.laws.specs.Boxes.{look-inside, units-within, chosen-within}
 use Rattle.laws.specs.Bounds.{Bounded}
 use Rattle.laws.specs.Tally.{Tally, yes, no, Gives, then-yes, then-no, asked-yes, asked-no, at-once, refused-at-once, was-answered}
 use Rattle.solid.specs.Grid.{ranksOf}
-use Rattle.solid.specs.Ranks.{ranks-are}
 use Rattle.falls.specs.declared.Scene.{Scene}
 use Rattle.falls.specs.Scene.{probeOf, Ready}
+use Rattle.falls.specs.Sizes.{scene-rank}
 use Rattle.choice.specs.declared.Best.{Best}
 use Rattle.choice.specs.Best.{pairAt}
 use Rattle.choice.specs.Sound.{Sound}
@@ -31,7 +31,7 @@ use Rattle.choice.specs.Numbers.{chosen-at}
 use Rattle.choice.specs.Lighter.{Weighs}
 use Rattle.round.specs.declared.Round.{Round}
 use Rattle.round.specs.declared.Round.the-variants.{Asked as IsAsked, Stopped}
-use Rattle.round.specs.Corners.{cornersIn, triangleIn, stepped, Ranked, Small, small, stepped-whole, stepped-ranked, stepped-triangle}
+use Rattle.round.specs.Corners.{cornerAt, cornersIn, triangleIn, stepped, Ranked, Small, small, stepped-whole, stepped-ranked, stepped-triangle}
 use Rattle.round.specs.Round.{roundTally, roundLooks, taking, RoundAsked}
 use Rattle.walk.specs.declared.Walked.the-variants.{Ended, Refused as IsRefused}
 use Rattle.walk.specs.Walk.{refusalOf, Units, allowed, Walks, Walking}
@@ -93,7 +93,13 @@ walk-begins {R = R} {level} high e = record {
 }
 
 pub going-begins : {v : Scene} {bytes : List ℕ} {level : Levels} {looks : ℕ} {ms : List ℤ} → Ready v bytes → Units (v .signs) (v .grid .ranks) ms → Going v bytes level looks ms 0 looks
-going-begins {v} {ms = ms} ready h = record { walking = walk-begins (ready .reach-high) (h .are); ranked = rw (ready .gridded, ranks-are (v .solid)) at (h .ranked); whole = h .whole }
+going-begins {ms = ms} ready h =
+    let k = h .ranked in
+    record {
+      walking = walk-begins (ready .reach-high) (h .are);
+      ranked = record { rank0 = scene-rank (cornerAt ms 0) ready (k .rank0); rank1 = scene-rank (cornerAt ms 1) ready (k .rank1); rank2 = scene-rank (cornerAt ms 2) ready (k .rank2) };
+      whole = h .whole;
+    }
 
 pub going-small : {v : Scene} {bytes : List ℕ} {level : Levels} {looks : ℕ} {ms : List ℤ} {steps n : ℕ} → Ready v bytes → Going v bytes level looks ms steps n → Small ms
 going-small {ms = ms} ready h = small ms ready (h .walking .sound) (h .ranked)
