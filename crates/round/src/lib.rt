@@ -148,7 +148,8 @@ fn ask_way(scene: Scene, bytes: &[u8], m: &[i32; 12], pair: u32, best: Best, loo
     let k = first_of(pair);
     let l = second_of(pair);
     let b = corner(m, l);
-    let w = space::subtract(b, corner(m, k));
+    let a = corner(m, k);
+    let w = space::subtract(b, a);
     let rise = rank(m, l) - rank(m, k);
     let f = falls::ask_falls(scene, bytes, w, rise, looks);
     settle(pair, best, b, w, f)

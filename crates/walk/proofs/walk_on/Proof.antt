@@ -21,5 +21,5 @@ walk-on-spec =
     μ-loop
     (λ c κs. search needs) (λ c κs. search scene-fits) (λ c. search going-begins)
     (λ c κs. search needs) (λ c. search needs) (λ c κs. search needs) (λ c. search needs) (λ c κs. search needs)
-    (λ c κs. search needs) (λ c κs. search (chosen-below, going-small)) (λ c. omega arith) (λ c. omega arith) (λ c. search walks-on)
+    (λ c κs. search needs) (λ c κs. search (needs, chosen-below, going-small)) (λ c. omega arith) (λ c. omega arith) (λ c. search walks-on)
     (λ c. search walks) (λ c. search walks) (λ c. search walks))
