@@ -1,44 +1,57 @@
--- Keeping the lighter pair is document 01's choice: strictly inside is a smaller weight, since the triangle's determinant is 1.
+-- Keeping the lighter pair is document 01's choice: strictly inside is a smaller weight, since the triangle's determinant is 1. While none fell every pair is lighter, since a triangle within 1023 has no weight so high.
 use mathlib.Core.Path.{_≡_, refl, sym, ap, _∙_}
 use mathlib.Core.Bool.{Bool, true, false}
+use Prim.Native.Nat.{ℕ, _≤_, _<_}
+use native.Mathlib.Omega.{arith}
 use lib.IntN.{ℤ, pos}
-use lib.Signed.{ltZ}
-use Rattle.rules.specs.declared.Vector.{Vector}
+use lib.Signed.{_<ℤ_, ltZ}
+use Rattle.integers.specs.Order.{parts}
+use Rattle.integers.specs.Sizes.{Within, sizes}
 use Rattle.rules.specs.declared.Triangle.{Triangle}
 use Rattle.rules.specs.declared.Pair.{Pair}
 use Rattle.rules.specs.declared.Choice.{Choice}
 use Rattle.rules.specs.declared.Choice.the-variants.{Nothing, Chosen}
-use Rattle.rules.specs.Vectors.{_⊖_, dot}
-use Rattle.rules.specs.Walk.{first, second, inside}
-use Rattle.laws.specs.Sphere.{weight, inside-by-weight}
+use Rattle.laws.specs.Tests.{less}
+use Rattle.laws.specs.Sphere.{weight, inside-by-weight, weight-fits}
 use Rattle.laws.specs.Choosing.{better}
 use Rattle.choice.specs.declared.Best.{Best}
-use Rattle.choice.specs.Best.{bestOf, lighter}
-use Rattle.choice.specs.Sound.{Sound}
+use Rattle.choice.specs.Best.{bestOf, pairAt, choiceOf, noWeight, lighter}
+use Rattle.choice.specs.Numbers.{chosen-at}
+use Rattle.choice.specs.Sound.{Sound, all-bounded}
 
--- the weight of a choice; of none, 0
+-- the weight of a choice
 abbrev pub bestWeight : Triangle → Choice → ℤ
-bestWeight m Nothing = pos 0
+bestWeight m Nothing = noWeight
 bestWeight m (Chosen x) = weight m x
 
-abbrev pub Weighs : Triangle → Best → Type 0
-Weighs m b = b .weight ≡ bestWeight m (b .choice)
+pub record Weighs (m : Triangle) (b : Best) : Type 0 where
+  pub numbered : b .pair ≤ 6
+  pub weighs : b .weight ≡ bestWeight m (choiceOf (b .pair))
 
--- the best of one pair more
-pub record Preferred (m : Triangle) (sofar : Best) (y : Pair) (r : Best) : Type 0 where
-  pub is : r .choice ≡ better m (sofar .choice) y
+-- the best of one pair more, of the number y
+pub record Preferred (m : Triangle) (sofar : Best) (y : ℕ) (r : Best) : Type 0 where
+  pub is : choiceOf (r .pair) ≡ better m (choiceOf (sofar .pair)) (pairAt y)
   pub weighs : Weighs m r
 
-module _ {m : Triangle} (s : Sound m) (y : Pair) where
-  lighter-preferred : (c : Choice) (w : ℤ) → w ≡ bestWeight m c → Preferred m (bestOf c w) y (lighter (bestOf c w) (bestOf (Chosen y) (weight m y)))
-  unfolding lighter better
-  lighter-preferred Nothing w h = record { is = refl; weighs = refl }
-  lighter-preferred (Chosen x) w h = go (ltZ (weight m y) w) (inside-by-weight m (s .unimodular) x y ∙ sym (ap (ltZ (weight m y)) h))
-    where
-      go : (b : Bool) → inside m x y ≡ b → Preferred m (bestOf (Chosen x) w) y (elim b [ true ↦ bestOf (Chosen y) (weight m y) | false ↦ bestOf (Chosen x) w ])
-      go true i = record { is = rw (i, better); weighs = refl }
-      go false i = record { is = rw (i, better); weighs = h }
+module _ {m : Triangle} (s : Sound m) where
+  weight-below : (x : Pair) → weight m x <ℤ noWeight
+  weight-below x = let h = weight-fits m (all-bounded s) x in omega (arith, parts, sizes)
 
-  -- as the code comes to it
-  pub prefers : {sofar next r : Best} {k l w : Vector} → Weighs m sofar → k ≡ first m y → l ≡ second m y → w ≡ l ⊖ k → next ≡ bestOf (Chosen y) (dot l w) → r ≡ lighter sofar next → Preferred m sofar y r
-  prefers {sofar} h i j e n p = rw (p, n, e, i, j) (lighter-preferred (sofar .choice) (sofar .weight) h)
+  -- a lighter pair is the better one
+  lighter-better : (c : Choice) (x : Pair) → better m c x ≡ elim (ltZ (weight m x) (bestWeight m c)) [ true ↦ Chosen x | false ↦ c ]
+  unfolding better
+  lighter-better Nothing x = rw (less (weight m x) noWeight (weight-below x))
+  lighter-better (Chosen y) x = rw (inside-by-weight m (s .unimodular) y x, better)
+
+  module _ {y : ℕ} (n : y < 6) where
+    lighter-preferred : {sofar : Best} → Weighs m sofar → Preferred m sofar y (lighter sofar (bestOf y (weight m (pairAt y))))
+    unfolding lighter
+    lighter-preferred {sofar} h = go (ltZ (weight m (pairAt y)) (sofar .weight)) (lighter-better (choiceOf (sofar .pair)) (pairAt y) ∙ ap (λ (w : ℤ). elim (ltZ (weight m (pairAt y)) w) [ true ↦ Chosen (pairAt y) | false ↦ choiceOf (sofar .pair) ]) (sym (h .weighs)))
+      where
+        go : (b : Bool) → better m (choiceOf (sofar .pair)) (pairAt y) ≡ elim b [ true ↦ Chosen (pairAt y) | false ↦ choiceOf (sofar .pair) ] → Preferred m sofar y (elim b [ true ↦ bestOf y (weight m (pairAt y)) | false ↦ sofar ])
+        go true i = record { is = chosen-at y n ∙ sym i; weighs = record { numbered = omega arith; weighs = rw (chosen-at y n) } }
+        go false i = record { is = sym i; weighs = h }
+
+    -- as the code comes to it
+    pub prefers : {sofar next r : Best} {w : ℤ} → Weighs m sofar → w ≡ weight m (pairAt y) → next ≡ bestOf y w → r ≡ lighter sofar next → Preferred m sofar y r
+    prefers h e p q = rw (q, p, e) (lighter-preferred h)

@@ -18,7 +18,7 @@ pub record Sound (m : Triangle) : Type 0 where
   pub unimodular : detOf m ≡ pos 1
 
 module _ {m : Triangle} (h : Sound m) where
-  all-bounded : All (Bounded 1023) m
+  pub all-bounded : All (Bounded 1023) m
   all-bounded = record { of0 = h .in0; of1 = h .in1; of2 = h .in2 }
 
   module _ (x : Pair) {a : Vector} where

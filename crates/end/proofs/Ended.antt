@@ -18,6 +18,7 @@ use Rattle.laws.specs.Tally.{yes, no, Gives, then-yes, then-no, ensured, not-en
 use Rattle.falls.specs.declared.Scene.{Scene}
 use Rattle.falls.specs.Scene.{probeOf, Ready}
 use Rattle.choice.specs.Sound.{Sound}
+use Rattle.round.specs.Corners.{laid-laid}
 use Rattle.walk.specs.Walk.{refusalOf, Walks}
 use Rattle.walk.specs.declared.Walked.{Walked}
 use Rattle.walk.specs.declared.Walked.the-variants.{Ended as WalkEnded, Refused as WalkRefused}
@@ -33,20 +34,20 @@ module _ (c : Probe) (R : ℕ) (v : Levels) (m : Triangle) (steps looks : ℕ) w
   end-refused e = then-no _ (not-ensured e)
 
 -- ---- from what the callees promised to what the caller promises
-module _ {v : Scene} {level : Levels} {m : Triangle} {steps looks : ℕ} {whole n : Vector} {k : ℕ} (w : whole ≡ normal m) (a : n ≡ levelled level whole) (b : k ≡ size n) where
-  pub ended-accepted : {u : Vector} {t : Triangle} → k ≤ v .reach → u ≡ lay (v .signs) n → t ≡ laid (v .signs) m
-      → EndGives v level m steps looks (Accepted record { normal = u; triangle = t; apex = v .apex; steps = steps; looks = looks })
+module _ {v : Scene} {level : Levels} {m frame : Triangle} {steps looks : ℕ} {whole n : Vector} {k : ℕ} (l : frame ≡ laid (v .signs) m) (w : whole ≡ normal frame) (a : n ≡ levelled level whole) (b : k ≡ size n) where
+  pub ended-accepted : {u : Vector} → Signs (v .signs) → k ≤ v .reach → u ≡ lay (v .signs) n
+      → EndGives v level m steps looks (Accepted record { normal = u; triangle = m; apex = v .apex; steps = steps; looks = looks })
   unfolding found
-  ended-accepted h e f = record { gives = λ bytes. rw (e, f, a, w) (end-accepted (probeOf v bytes) (v .reach) level m steps looks (le-leb _ _ (rw (b, a, w) at h))) }
+  ended-accepted g h e = record { gives = λ bytes. rw (e, a, w, l) (rw (laid-laid (v .signs) m g) at (end-accepted (probeOf v bytes) (v .reach) level (laid (v .signs) m) steps looks (le-leb _ _ (rw (b, a, w, l) at h)))) }
 
   pub ended-refused : {r : Refused} → v .reach < k → r ≡ refusalOf 10 (v .apex) steps looks → EndGives v level m steps looks (IsRefused r)
-  ended-refused h e = record { gives = λ bytes. rw e (end-refused (probeOf v bytes) (v .reach) level m steps looks (lt-leb _ _ (rw (b, a, w) at h))) }
+  ended-refused h e = record { gives = λ bytes. rw e (end-refused (probeOf v bytes) (v .reach) level (laid (v .signs) m) steps looks (lt-leb _ _ (rw (b, a, w, l) at h))) }
 
 pub ruleset ending = (ended-accepted, ended-refused)
 
 -- ---- the rounds, then the end
 module _ {c : Probe} {R : ℕ} {level : Levels} {looks : ℕ} {walked : Walked} (h : Walks c R level looks walked) where
-  pub end-sound : {m : Triangle} {steps k : ℕ} → walked ≡ WalkEnded m steps k → Sound m
+  pub end-sound : {m : Triangle} {steps k : ℕ} → walked ≡ WalkEnded m steps k → Sound (laid (c .signs) m)
   end-sound e = rw e at (h .sound)
 
   pub walked-refused : {r : Refused} → walked ≡ WalkRefused r → WalkedToEnd c R level looks (IsRefused r)
@@ -55,10 +56,5 @@ module _ {c : Probe} {R : ℕ} {level : Levels} {looks : ℕ} {walked : Walked} 
 pub walked-ended : {v : Scene} {bytes : List ℕ} {level : Levels} {looks : ℕ} {walked : Walked} {m : Triangle} {steps k : ℕ} {r : Pick}
     → Ready v bytes → Walks (probeOf v bytes) (v .reach) level looks walked → walked ≡ WalkEnded m steps k → EndGives v level m steps k r → WalkedToEnd (probeOf v bytes) (v .reach) level looks r
 walked-ended {bytes = bytes} ready h e g = record { gives = then-yes _ (rw e at (h .gives)) (g .gives bytes) }
-
-pub ready-signed : {v : Scene} {bytes : List ℕ} → Ready v bytes → Signs (v .signs)
-ready-signed h = h .signed
-
-pub ruleset granted = (end-sound, ready-signed)
 
 pub ruleset walking = (walked-refused, walked-ended)

@@ -1,6 +1,7 @@
 // The end of a walk: its rounds, and what was found when no pair falls.
 ghost use mathlib.Core.Path.{_≡_};
 ghost use Rattle.rules.specs.Walk.{unlessLevel, levelled, normal, laid};
+ghost use Rattle.laws.specs.Triples.{All};
 ghost use Rattle.laws.specs.Bounds.{Bounded};
 ghost use Rattle.laws.specs.Frames.{Signs};
 ghost use Rattle.laws.specs.Tally.{Countable};
@@ -30,8 +31,9 @@ fn normal_of(m: Triangle) -> Vector
     space::add(space::add(a, b), c)
 }
 
+// Laid into the box, or back out of it.
 fn lay_triangle(s: Vector, m: Triangle) -> Triangle
-    requires { ⌜ Sound m × Bounded 1 s ⌝ }
+    requires { ⌜ Bounded 1 s × All (Bounded 1023) m ⌝ }
     ensures { λ r. ⌜ r ≡ laid s m ⌝ }
 {
     let m0 = m.m0;
@@ -40,7 +42,11 @@ fn lay_triangle(s: Vector, m: Triangle) -> Triangle
     let a = space::lay(s, m0);
     let b = space::lay(s, m1);
     let c = space::lay(s, m2);
-    round::make_triangle(a, b, c)
+    Triangle {
+        m0: a,
+        m1: b,
+        m2: c,
+    }
 }
 
 fn unless_level(level: bool, z: i32) -> i32
@@ -60,23 +66,23 @@ fn level_out(level: Levels, n: Vector) -> Vector
     Vector { x: x, y: y, z: z }
 }
 
-// No pair falls.
+// No pair falls. The triangle m comes laid in.
 fn end_walk(scene: Scene, level: Levels, m: Triangle, steps: u32, looks: u32) -> Pick
-    requires { ⌜ Sound m × Signs (scene .signs) ⌝ }
+    requires { ⌜ Sound (laid (scene .signs) m) × Signs (scene .signs) ⌝ }
     ensures { λ r. ⌜ EndGives scene level m steps looks r ⌝ }
 {
     let s = scene.signs;
     let q = scene.apex;
     let reach = scene.reach;
-    let whole = normal_of(m);
+    let frame = lay_triangle(s, m);
+    let whole = normal_of(frame);
     let n = level_out(level, whole);
     let sum = space::size(n);
     if sum <= reach {
         let laid = space::lay(s, n);
-        let corners = lay_triangle(s, m);
         Pick::Accepted(Accepted {
             normal: laid,
-            triangle: corners,
+            triangle: m,
             apex: q,
             steps: steps,
             looks: looks,

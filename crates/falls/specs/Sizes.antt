@@ -29,7 +29,7 @@ scene-ranks {v} h = rw (h .gridded) (ranks-small (v .solid) (h .permitted))
 pub scene-rank : {v : Scene} {bytes : List ℕ} (u : Vector) {z : ℤ} → Ready v bytes → z ≡ dot (v .grid .ranks) u → z ≡ dot (ranksOf (v .solid)) u
 scene-rank {v} u h e = rank-by-grid (v .solid) u (h .gridded) e
 
-sign-bounded : (z : ℤ) → IsSign z → Within 1 z
+pub sign-bounded : (z : ℤ) → IsSign z → Within 1 z
 sign-bounded z (inl e) = within-is e (within-literal (pos 1))
 sign-bounded z (inr e) = within-is e (within-literal (negsuc 0))
 

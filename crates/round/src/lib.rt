@@ -1,17 +1,21 @@
 // One round: the pairs that take part are asked in their order, and the best of those that fall is kept.
 ghost use mathlib.Core.Path.{_≡_};
-ghost use Rattle.rules.specs.Walk.{takesPart, triangle, with, step};
+ghost use Prim.Native.Nat.{_<_};
+ghost use lib.IntN.{_-ℤ_};
+ghost use Rattle.rules.specs.Walk.{from, to};
+ghost use Rattle.laws.specs.Bounds.{Bounded};
 ghost use Rattle.laws.specs.Tally.{Countable};
+ghost use Rattle.solid.specs.Grid.{ranksOf};
 ghost use Rattle.falls.specs.Scene.{probeOf, Ready};
+ghost use Rattle.choice.specs.Best.{pairAt};
 ghost use Rattle.choice.specs.Sound.{Sound};
 ghost use Rattle.choice.specs.Lighter.{Weighs};
-ghost use Rattle.round.specs.Round.{Weighed, pairAfter, roundLooks, WayAsked, PairAsked, RoundAsked};
+ghost use Rattle.round.specs.Corners.{index, cornerAt, rankAt, putAt, stepped, cornersIn, triangleIn, Ranked, Small};
+ghost use Rattle.round.specs.Round.{Skips, asksBit, settled, WayAsked, RoundAsked};
 use choice::Best;
 use falls::Falls;
 use falls::Scene;
-use rules::Choice;
 use rules::Levels;
-use rules::Pair;
 use rules::Triangle;
 use rules::Vector;
 
@@ -21,11 +25,46 @@ pub enum Round {
     Stopped(Vector, u32),
 }
 
-// ---- pairs
+// ---- pairs, by their numbers in the order in which they are asked
 
-pub fn make_triangle(a: Vector, b: Vector, c: Vector) -> Triangle
-    ensures { λ r. ⌜ r ≡ triangle a b c ⌝ }
+// k of the pair (k, l)
+fn first_of(pair: u32) -> u32
+    requires { ⌜ pair < 6 ⌝ }
+    ensures { λ r. ⌜ r ≡ index (from (pairAt pair)) ⌝ }
 {
+    pair / 2
+}
+
+// l: one of the two other axes, the lower first
+fn second_of(pair: u32) -> u32
+    requires { ⌜ pair < 6 ⌝ }
+    ensures { λ r. ⌜ r ≡ index (to (pairAt pair)) ⌝ }
+{
+    let k = pair / 2;
+    let j = pair % 2;
+    if j < k { j } else { j + 1 }
+}
+
+// ---- the triangle, laid in: x, y, z and the rank of m0, then of m1, then of m2
+
+// m_k
+fn corner(m: &[i32; 12], k: u32) -> Vector
+    requires { ⌜ k < 3 ⌝ }
+    ensures { λ r. ⌜ r ≡ cornerAt (now (m .entry)) k ⌝ }
+{
+    let i = 4 * k;
+    let x = m[i as usize];
+    let y = m[(i + 1) as usize];
+    let z = m[(i + 2) as usize];
+    Vector { x: x, y: y, z: z }
+}
+
+pub fn triangle_of(m: &[i32; 12]) -> Triangle
+    ensures { λ r. ⌜ r ≡ cornersIn (now (m .entry)) ⌝ }
+{
+    let a = corner(m, 0);
+    let b = corner(m, 1);
+    let c = corner(m, 2);
     Triangle {
         m0: a,
         m1: b,
@@ -33,123 +72,112 @@ pub fn make_triangle(a: Vector, b: Vector, c: Vector) -> Triangle
     }
 }
 
-// a in the place of m_k
-fn replace(m: Triangle, x: Pair, a: Vector) -> Triangle
-    ensures { λ r. ⌜ r ≡ with m x a ⌝ }
+fn rank(m: &[i32; 12], k: u32) -> i32
+    requires { ⌜ k < 3 ⌝ }
+    ensures { λ r. ⌜ r ≡ rankAt (now (m .entry)) k ⌝ }
 {
-    let m0 = m.m0;
-    let m1 = m.m1;
-    let m2 = m.m2;
-    match x {
-        Pair::P01 => make_triangle(a, m1, m2),
-        Pair::P02 => make_triangle(a, m1, m2),
-        Pair::P10 => make_triangle(m0, a, m2),
-        Pair::P12 => make_triangle(m0, a, m2),
-        Pair::P20 => make_triangle(m0, m1, a),
-        Pair::P21 => make_triangle(m0, m1, a),
-    }
+    let i = 4 * k + 3;
+    m[i as usize]
 }
 
-// A step: m_k - m_l in the place of m_k.
-pub fn step_by(m: Triangle, x: Pair) -> Triangle
-    requires { ⌜ Sound m ⌝ }
-    ensures { λ r. ⌜ r ≡ step m x ⌝ }
+// a with its rank in the place of m_k
+fn put(m: &mut [i32; 12], k: u32, a: Vector, rank: i32)
+    requires { ⌜ k < 3 ⌝ }
+    ensures { λ r. ⌜ now (m .exit) ≡ putAt (now (m .entry)) k a rank ⌝ }
 {
-    let a = space::subtract(choice::first_of(m, x), choice::second_of(m, x));
-    replace(m, x, a)
+    let i = 4 * k;
+    let x = a.x;
+    let y = a.y;
+    let z = a.z;
+    m[i as usize] = x;
+    m[(i + 1) as usize] = y;
+    m[(i + 2) as usize] = z;
+    m[(i + 3) as usize] = rank;
 }
 
-// A level axis takes no part in the pairs.
-fn takes_part(level: Levels, x: Pair) -> bool
-    ensures { λ r. ⌜ r ≡ takesPart level x ⌝ }
+// A step: m_k - m_l in the place of m_k, and its rank, the difference of theirs.
+pub fn step_by(m: &mut [i32; 12], pair: u32)
+    requires { ⌜ (pair < 6) × Small (now m) ⌝ }
+    ensures { λ r. ⌜ now (m .exit) ≡ stepped (now (m .entry)) (pairAt pair) ⌝ }
 {
-    let a = level.x;
-    let b = level.y;
-    let c = level.z;
-    match x {
-        Pair::P01 => !a & !b,
-        Pair::P02 => !a & !c,
-        Pair::P10 => !b & !a,
-        Pair::P12 => !b & !c,
-        Pair::P20 => !c & !a,
-        Pair::P21 => !c & !b,
-    }
+    let k = first_of(pair);
+    let l = second_of(pair);
+    let a = space::subtract(corner(m, k), corner(m, l));
+    let r = rank(m, k) - rank(m, l);
+    put(m, k, a, r);
+}
+
+// ---- level axes take no part in the pairs
+
+// Bit by bit the pairs that take no part.
+fn skipped(level: Levels) -> u32
+    ensures { λ r. ⌜ Skips level r ⌝ }
+{
+    let a = (level.x | level.y) as u32;
+    let b = (level.x | level.z) as u32;
+    let c = (level.y | level.z) as u32;
+    5 * a + 18 * b + 40 * c
+}
+
+fn takes_part(skip: u32, pair: u32) -> bool
+    requires { ⌜ pair < 6 ⌝ }
+    ensures { λ r. ⌜ r ≡ asksBit skip pair ⌝ }
+{
+    (skip >> pair) % 2 == 0
 }
 
 // ---- the round
 
-// A pair that takes part, after those of which `best` is the best.
-fn ask_way(scene: Scene, bytes: &[u8], m: Triangle, x: Pair, best: Best, looks: u32) -> Round
-    requires { ⌜ Ready scene (now bytes) × Sound m × Weighs m best × Countable 1 looks ⌝ }
-    ensures { λ r. ⌜ WayAsked (probeOf scene (now (bytes .entry))) m x best looks r ⌝ }
+// What the answer makes of the best so far: a pair that fell is weighed, where b is m_l and w the way.
+fn settle(pair: u32, best: Best, b: Vector, w: Vector, f: Falls) -> Round
+    requires { ⌜ Bounded 10000 b × Bounded 10000 w ⌝ }
+    ensures { λ r. ⌜ r ≡ settled pair best b w f ⌝ }
 {
-    let s = scene.signs;
-    let k = choice::first_of(m, x);
-    let l = choice::second_of(m, x);
-    let w = space::subtract(l, k);
-    let u = space::lay(s, w);
-    let f = falls::ask_vector(scene, bytes, u, looks);
     match f {
-        Falls::Fell(n) => Round::Asked(choice::prefer(best, choice::weigh(x, l, w)), n),
+        Falls::Fell(n) => Round::Asked(choice::prefer(best, choice::weigh(pair, b, w)), n),
         Falls::Kept(n) => Round::Asked(best, n),
         Falls::Stopped(p, n) => Round::Stopped(p, n),
     }
 }
 
-// One pair more, asked if it takes part.
-fn ask_pair(scene: Scene, bytes: &[u8], level: Levels, m: Triangle, x: Pair, sofar: Round) -> Round
-    requires { ⌜ Ready scene (now bytes) × Sound m × Weighed m sofar × Countable 1 (roundLooks sofar) ⌝ }
-    ensures { λ r. ⌜ PairAsked (probeOf scene (now (bytes .entry))) m level x sofar r ⌝ }
+// A pair that takes part, after those of which `best` is the best. The way's rank is the difference of the vectors' ranks.
+fn ask_way(scene: Scene, bytes: &[u8], m: &[i32; 12], pair: u32, best: Best, looks: u32) -> Round
+    requires { ⌜ Ready scene (now bytes) × Sound (triangleIn (scene .signs) (now m)) × Ranked (ranksOf (scene .solid)) (now m) × (pair < 6) × Weighs (triangleIn (scene .signs) (now m)) best × Countable 1 looks ⌝ }
+    ensures { λ r. ⌜ WayAsked (probeOf scene (now (bytes .entry))) (triangleIn (scene .signs) (now (m .entry))) (pairAt pair) best looks r ⌝ }
 {
-    match sofar {
-        Round::Stopped(p, n) => Round::Stopped(p, n),
-        Round::Asked(best, n) => {
-            if takes_part(level, x) {
-                ask_way(scene, bytes, m, x, best, n)
-            } else {
-                Round::Asked(best, n)
-            }
-        }
-    }
+    let k = first_of(pair);
+    let l = second_of(pair);
+    let b = corner(m, l);
+    let a = corner(m, k);
+    let w = space::subtract(b, a);
+    let rise = rank(m, l) - rank(m, k);
+    let f = falls::ask_falls(scene, bytes, w, rise, looks);
+    settle(pair, best, b, w, f)
 }
 
-// The pairs in their order: after the last, none.
-fn pair_after(x: Pair) -> Choice
-    ensures { λ r. ⌜ r ≡ pairAfter x ⌝ }
+// All pairs that take part, even after one has fallen. One call in a loop and not six: so the question is compiled in place.
+pub fn ask_round(scene: Scene, bytes: &[u8], level: Levels, m: &[i32; 12], looks: u32) -> Round
+    requires { ⌜ Ready scene (now bytes) × Sound (triangleIn (scene .signs) (now m)) × Ranked (ranksOf (scene .solid)) (now m) × Countable 6 looks ⌝ }
+    ensures { λ r. ⌜ RoundAsked (probeOf scene (now (bytes .entry))) (triangleIn (scene .signs) (now (m .entry))) level looks r ⌝ }
 {
-    match x {
-        Pair::P01 => Choice::Chosen(Pair::P02),
-        Pair::P02 => Choice::Chosen(Pair::P10),
-        Pair::P10 => Choice::Chosen(Pair::P12),
-        Pair::P12 => Choice::Chosen(Pair::P20),
-        Pair::P20 => Choice::Chosen(Pair::P21),
-        Pair::P21 => Choice::Nothing,
-    }
-}
-
-// All pairs that take part, even after one has fallen. One call in a loop and not six: so the question is compiled in place, which saves about two fifths of a pick's time.
-pub fn ask_round(scene: Scene, bytes: &[u8], level: Levels, m: Triangle, looks: u32) -> Round
-    requires { ⌜ Ready scene (now bytes) × Sound m × Countable 6 looks ⌝ }
-    ensures { λ r. ⌜ RoundAsked (probeOf scene (now (bytes .entry))) m level looks r ⌝ }
-{
-    let none = Best {
-        choice: Choice::Nothing,
-        weight: 0,
-    };
-    let mut x = Pair::P01;
-    let mut sofar = Round::Asked(none, looks);
-    let end = loop {
-        let r = ask_pair(scene, bytes, level, m, x, sofar);
-        let next = pair_after(x);
-        match next {
-            Choice::Nothing => {
-                break r;
-            }
-            Choice::Chosen(y) => {
-                x = y;
-                sofar = r;
+    let skip = skipped(level);
+    let mut best = choice::none();
+    let mut n = looks;
+    let mut i: u32 = 0;
+    while i < 6 {
+        if takes_part(skip, i) {
+            let r = ask_way(scene, bytes, m, i, best, n);
+            match r {
+                Round::Stopped(p, k) => {
+                    return Round::Stopped(p, k);
+                }
+                Round::Asked(b, k) => {
+                    best = b;
+                    n = k;
+                }
             }
         }
-    };
-    end
+        i = i + 1;
+    }
+    Round::Asked(best, n)
 }

@@ -1,2 +1,3 @@
--- The walk, round by round.
+-- The unit vectors, and the walk, round by round.
+pub mod Units
 pub mod Walks

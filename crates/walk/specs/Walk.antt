@@ -1,15 +1,19 @@
 -- The walk: what its end tells, and what holds before each round.
+use mathlib.Core.Path.{_≡_}
+use mathlib.Core.List.{List}
 use Prim.Native.Nat.{ℕ, _+_, _-_, _*_, _≤_}
+use lib.IntN.{ℤ}
 use lib.ListN.{length}
 use Rattle.rules.specs.declared.Vector.{Vector}
 use Rattle.rules.specs.declared.Levels.{Levels}
 use Rattle.rules.specs.declared.Triangle.{Triangle}
 use Rattle.rules.specs.declared.Refused.{Refused}
 use Rattle.rules.specs.Asked.{Asked}
-use Rattle.rules.specs.Walk.{Stop, pairs, remaining, Probe, walk, rounds}
+use Rattle.rules.specs.Walk.{Stop, units, pairs, remaining, Probe, laid, walk, rounds}
 use Rattle.laws.specs.Answers.{stopOf}
 use Rattle.laws.specs.Tally.{Tally, yes, no, Gives, mostLooks}
 use Rattle.choice.specs.Sound.{Sound}
+use Rattle.round.specs.Corners.{triangleIn, Ranked}
 use Rattle.round.specs.Round.{taking}
 use Rattle.walk.specs.declared.Walked.{Walked}
 use Rattle.walk.specs.declared.Walked.the-variants.{Ended, Refused as IsRefused}
@@ -21,13 +25,20 @@ refusalOf number place steps looks = record { number = number; place = place; st
 abbrev pub refusalTally : {A : Type 0} → Refused → Tally Stop A
 refusalTally r = no (stopOf r) (r .looks)
 
-abbrev pub walkTally : Walked → Tally Stop (Triangle × ℕ)
-walkTally (Ended m n k) = yes (m, n) k
-walkTally (IsRefused r) = refusalTally r
+-- the walk ends with the triangle laid in: in the frame with the signs s it is the definition's
+abbrev pub walkTally : Vector → Walked → Tally Stop (Triangle × ℕ)
+walkTally s (Ended t n k) = yes (laid s t, n) k
+walkTally s (IsRefused r) = refusalTally r
 
-abbrev pub SoundEnd : Walked → Type 0
-SoundEnd (Ended m n k) = Sound m
-SoundEnd (IsRefused r) = Unit {0}
+abbrev pub SoundEnd : Vector → Walked → Type 0
+SoundEnd s (Ended t n k) = Sound (laid s t)
+SoundEnd s (IsRefused r) = Unit {0}
+
+-- ms holds the unit vectors laid in, with their ranks
+pub record Units (s ranks : Vector) (ms : List ℤ) : Type 0 where
+  pub are : triangleIn s ms ≡ units
+  pub ranked : Ranked ranks ms
+  pub whole : length ms ≡ 12
 
 -- six pairs in each of at most 257 rounds
 abbrev pub walkQuestions : ℕ
@@ -43,8 +54,8 @@ module _ (c : Probe) (R : ℕ) (level : Levels) where
   walkFrom left steps m = walk c (taking level pairs) left steps m
 
   pub record Walks (looks : ℕ) (r : Walked) : Type 0 where
-    pub gives : Gives looks (rounds c R level) (walkTally r)
-    pub sound : SoundEnd r
+    pub gives : Gives looks (rounds c R level) (walkTally (c .signs) r)
+    pub sound : SoundEnd (c .signs) r
 
   -- before a round, after n looks: the walk from here gives what the whole walk gives
   pub record Walking (looks : ℕ) (m : Triangle) (steps n : ℕ) : Type 0 where

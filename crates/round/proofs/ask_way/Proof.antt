@@ -1,31 +1,31 @@
--- `round::ask_way` meets its contract: by what `ask_vector` promises of the pair's way.
+-- `round::ask_way` meets its contract: by what `ask_falls` promises of the pair's way, whose rank is the difference of two.
 use native.Mathlib.Omega.{arith}
 use borrow.Author.Needs.{needs}
-use Rattle.choice.specs.Sound.{named, both-fit}
-use Rattle.round.proofs.Ways.{lay-fits, laid-bounded}
-use Rattle.round.proofs.Rounds.{ways}
+use Rattle.choice.specs.Sound.{both-fit}
+use Rattle.round.specs.Corners.{index-below, small}
+use Rattle.round.proofs.Ways.{named, ranks-fit, rise-is}
+use Rattle.round.proofs.Rounds.{way-asked}
 use Rattle.round.proofs.ask_way.Statement.{statement}
 use Rattle.round.proofs.ask_way.Tie as tie
 
-way-fits : tie.Need-subtract-requires
-way-fits c κs = both-fit (search named) (search named) tt
+vectors-fit : tie.Need-subtract-requires
+vectors-fit c κs = both-fit (search (named, small)) (search (named, small)) tt
 
-lay-requires : tie.Need-lay-requires
-lay-requires c κs = lay-fits (c .before .before .before .before .before .pre .0 .signed) (search named)
+ask-falls-requires : tie.Need-ask-falls-requires
+ask-falls-requires c κs =
+    let w = c .before .before in
+    let o = w .before .before in
+    let s = o .before .before .before .before in
+    let h = small _ (s .pre .0) (s .pre .1) (s .pre .2) in
+    (s .pre .0, search named, rise-is h _ _ (o .before .second-of .ensures) (o .before .before .first-of .ensures) (c .before .rank .ensures) (c .rank2 .ensures) (s .pre .2) (o .corner .ensures) (w .before .corner2 .ensures) (w .subtract .ensures), omega (arith, s .pre .5))
 
-ask-vector-requires : tie.Need-ask-vector-requires
-ask-vector-requires c κs =
-    let s = c .before .before .before .before .before .before in
-    (s .pre .0, laid-bounded (s .pre .0 .signed) (search named) (c .lay .ensures), omega (arith, s .pre .3))
-
-weight-fits : tie.Need-weigh-requires
-weight-fits c κs = both-fit (search named) (search named) tt
+settle-requires : tie.Need-settle-requires
+settle-requires c κs = both-fit (search (named, small)) (search (named, small)) tt
 
 pub ask-way-spec : {M : Type 1} → statement M
 ask-way-spec =
     tie.close
     (tie.spec
-    (λ c κs. search needs) (λ c κs. search needs) way-fits lay-requires ask-vector-requires
-    (λ c. search needs) weight-fits
-    (λ c κs. search needs) (λ c. search needs) (λ c. search needs) (λ c. search ways)
-    (λ c. search ways) (λ c. search ways))
+    (λ c κs. search needs) (λ c κs. search needs) (λ c κs. search index-below) (λ c κs. search index-below) vectors-fit
+    (λ c κs. search index-below) (λ c κs. search index-below) (λ c. search (ranks-fit, small)) ask-falls-requires settle-requires
+    (λ c. search way-asked))

@@ -4,18 +4,14 @@ use mathlib.Core.Bool.{Bool, true, false, not}
 use mathlib.Core.List.{List, []}
 use Prim.Native.Nat.{_+_, _≤_}
 use native.Mathlib.Omega.{arith}
-use lib.Dec.{lit≤}
 use lib.ListN.{length}
 use mir.Val.{boolByte}
 use borrow.Author.Needs.{needs}
 use Rattle.rules.specs.declared.Levels.{Levels}
 use Rattle.rules.specs.Walk.{Axis, axis0, axis1, axis2, keep, only, remaining}
+use Rattle.round.specs.Flags.{at-most-one}
 use Rattle.walk.proofs.count_remaining.Statement.{statement}
 use Rattle.walk.proofs.count_remaining.Tie as tie
-
-at-most-one : (b : Bool) → boolByte b ≤ 1
-at-most-one true = lit≤ tt
-at-most-one false = lit≤ tt
 
 one-more : (b : Bool) (k : Axis) (ks : List Axis) → length (keep b k ks) ≡ boolByte b + length ks
 unfolding keep
