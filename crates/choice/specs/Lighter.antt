@@ -1,12 +1,12 @@
 -- Keeping the lighter pair is document 01's choice: strictly inside is a smaller weight, since the triangle's determinant is 1. While none fell every pair is lighter, since a triangle within 1023 has no weight so high.
-use mathlib.Core.Path.{_≡_, refl, sym, ap, _∙_}
+use mathlib.Core.Path.{_≡_, sym, ap, _∙_}
 use mathlib.Core.Bool.{Bool, true, false}
 use Prim.Native.Nat.{ℕ, _≤_, _<_}
 use native.Mathlib.Omega.{arith}
-use lib.IntN.{ℤ, pos}
+use lib.IntN.{ℤ}
 use lib.Signed.{_<ℤ_, ltZ}
 use Rattle.integers.specs.Order.{parts}
-use Rattle.integers.specs.Sizes.{Within, sizes}
+use Rattle.integers.specs.Sizes.{sizes}
 use Rattle.rules.specs.declared.Triangle.{Triangle}
 use Rattle.rules.specs.declared.Pair.{Pair}
 use Rattle.rules.specs.declared.Choice.{Choice}

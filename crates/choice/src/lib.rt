@@ -35,5 +35,7 @@ pub fn weigh(pair: u32, l: Vector, w: Vector) -> Best
 pub fn prefer(sofar: Best, next: Best) -> Best
     ensures { λ r. ⌜ r ≡ lighter sofar next ⌝ }
 {
-    if next.weight < sofar.weight { next } else { sofar }
+    let least = sofar.weight;
+    let own = next.weight;
+    if own < least { next } else { sofar }
 }

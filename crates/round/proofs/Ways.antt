@@ -2,7 +2,7 @@
 use mathlib.Core.Path.{_≡_, sym, ap, _∙_}
 use mathlib.Core.List.{List}
 use Prim.Native.Nat.{ℕ}
-use lib.Dec.{lit≤}
+use lib.Dec.{T, leb, lit≤}
 use lib.IntN.{ℤ, _-ℤ_}
 use mir.Syntax.{w32}
 use mir.Val.{SFits}
@@ -24,6 +24,10 @@ pub difference-fits : {ms : List ℤ} (a b : Axis) {k l : ℕ} {u v w : Vector} 
 difference-fits a b h i j e f g = bounded-is g (rw (e, f, i, j) (bounded-difference (h .corners a) (h .corners b)))
 
 pub ruleset named = (corner-fits, difference-fits)
+
+-- two of them, as a call asks for them
+pub both-fit : {n : ℕ} {a b : Vector} → Bounded 2046 a → Bounded 2046 b → T (leb 2046 n) → Bounded n a × Bounded n b
+both-fit h k t = (bounded-wider h (lit≤ t), bounded-wider k (lit≤ t))
 
 -- ---- ranks
 module _ {ms : List ℤ} (h : Small ms) (a b : Axis) {k l : ℕ} (i : k ≡ index a) (j : l ≡ index b) where

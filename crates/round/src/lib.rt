@@ -1,7 +1,6 @@
 // One round: the pairs that take part are asked in their order, and the best of those that fall is kept.
 ghost use mathlib.Core.Path.{_≡_};
 ghost use Prim.Native.Nat.{_<_};
-ghost use lib.IntN.{_-ℤ_};
 ghost use Rattle.rules.specs.Walk.{from, to};
 ghost use Rattle.laws.specs.Bounds.{Bounded};
 ghost use Rattle.laws.specs.Tally.{Countable};

@@ -1,9 +1,8 @@
 -- `round::ask_way` meets its contract: by what `ask_falls` promises of the pair's way, whose rank is the difference of two.
 use native.Mathlib.Omega.{arith}
 use borrow.Author.Needs.{needs}
-use Rattle.choice.specs.Sound.{both-fit}
 use Rattle.round.specs.Corners.{index-below, small}
-use Rattle.round.proofs.Ways.{named, ranks-fit, rise-is}
+use Rattle.round.proofs.Ways.{named, both-fit, ranks-fit, rise-is}
 use Rattle.round.proofs.Rounds.{way-asked}
 use Rattle.round.proofs.ask_way.Statement.{statement}
 use Rattle.round.proofs.ask_way.Tie as tie

@@ -1,8 +1,7 @@
 -- `round::step_by` meets its contract: the difference of two vectors of the triangle and that of their ranks, put in the place of the first.
 use borrow.Author.Needs.{needs}
-use Rattle.choice.specs.Sound.{both-fit}
 use Rattle.round.specs.Corners.{index-below}
-use Rattle.round.proofs.Ways.{named, ranks-fit, step-made}
+use Rattle.round.proofs.Ways.{named, both-fit, ranks-fit, step-made}
 use Rattle.round.proofs.step_by.Statement.{statement}
 use Rattle.round.proofs.step_by.Tie as tie
 
