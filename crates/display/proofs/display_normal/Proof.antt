@@ -10,9 +10,12 @@ ruleset out-of-range = (promise-back, dark-outside)
 
 ruleset shown = (promise-back, shows)
 
+unlit : tie.Need-returns
+unlit c = search all-zero
+
 pub display-normal-spec : {M : Type 1} → statement M
 display-normal-spec =
     tie.close
     (tie.spec
-    (λ c κs. search needs) (λ c. search all-zero)
+    (λ c κs. search needs) unlit
     (λ c κs. search needs) (λ c κs. search lit-asks) (λ c. search shown) (λ c. search out-of-range))

@@ -5,9 +5,12 @@ use Rattle.display.proofs.Components.{shown-below, shown-from-zero}
 use Rattle.display.proofs.shown.Statement.{statement}
 use Rattle.display.proofs.shown.Tie as tie
 
+below-zero : tie.Need-returns
+below-zero c = search shown-below
+
 pub shown-spec : {M : Type 1} → statement M
 shown-spec =
     tie.close
     (tie.spec
     (λ c κs. search sized-back)
-    (λ c κs. search needs) (λ c. search shown-below) (λ c. search shown-from-zero))
+    (λ c κs. search needs) below-zero (λ c. search shown-from-zero))

@@ -28,6 +28,9 @@ rows-end-fits c =
     let r = rows-in (g .find-rows .ensures) (f .found2 .given .1) size in
     omega arith
 
+too-many : tie.Need-returns Inv-loop μ-loop
+too-many c = search keeping-full
+
 pub judge-images-spec : {M : Type 1} → statement M
 judge-images-spec =
     tie.close
@@ -35,7 +38,7 @@ judge-images-spec =
     Inv-loop
     μ-loop
     (λ c κs. search needs) (λ c. search keeping-start)
-    (λ c. omega arith) (λ c. search keeping-full)
+    (λ c. omega arith) too-many
     (λ c κs. search keeping-range)
     (λ c. search needs) (λ c. omega arith) (λ c. search keeping-not)
     (λ c. search needs) (λ c. omega arith) place-inside rows-end-fits

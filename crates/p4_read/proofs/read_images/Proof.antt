@@ -37,6 +37,9 @@ stack-read c =
     stack-stored (s .pre) (j .judge-images .ensures) (d .judged2 .given .1) (b .slice-bytes .ensures)
     (omega arith) (r .store-images .ensures) (c .stack-of .ensures)
 
+buffer-short : tie.Need-returns-3
+buffer-short c = search stack-short
+
 pub read-images-spec : {M : Type 1} → statement M
 read-images-spec =
     tie.close
@@ -45,4 +48,4 @@ read-images-spec =
     (λ c. search needs) (λ c. search needs) (λ c κs. search first-sides)
     stack-fits
     (λ c. search needs) buffer-has-room (λ c κs. search stack-sides)
-    (λ c. search needs) stack-read (λ c. search images-refused) (λ c. search stack-short))
+    (λ c. search needs) stack-read (λ c. search images-refused) buffer-short)

@@ -32,6 +32,9 @@ last-byte-written c = let r = row-inside (c .before .before) in omega arith
 next-row-fits : tie.Need-add-o Inv-loop μ-loop
 next-row-fits c = let r = row-inside (c .before .before) in omega arith
 
+row-cleared : tie.Need-loop-again Inv-loop μ-loop
+row-cleared c = search clearing-next
+
 pub clear-padding-spec : {M : Type 1} → statement M
 clear-padding-spec =
     tie.close
@@ -42,5 +45,5 @@ clear-padding-spec =
     (λ c. search needs) last-byte-fits last-byte-read
     (λ c κs. search needs)
     last-byte-written next-row-fits
-    (λ c. omega arith) (λ c. omega arith) (λ c. search clearing-next)
+    (λ c. omega arith) (λ c. omega arith) row-cleared
     (λ c. search) (λ c. search clearing-end))
