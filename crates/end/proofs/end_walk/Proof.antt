@@ -5,9 +5,12 @@ use Rattle.end.proofs.Ended.{ending}
 use Rattle.end.proofs.end_walk.Statement.{statement}
 use Rattle.end.proofs.end_walk.Tie as tie
 
+accepted : tie.Need-returns
+accepted c = search ending
+
 pub end-walk-spec : {M : Type 1} → statement M
 end-walk-spec =
     tie.close
     (tie.spec
     (λ c κs. search ends-fit) (λ c κs. search ends-fit) (λ c κs. search ends-fit) (λ c κs. search ends-fit) (λ c κs. search ends-fit)
-    (λ c κs. search needs) (λ c. search ending) (λ c. search ending))
+    (λ c κs. search needs) accepted (λ c. search ending))

@@ -15,6 +15,9 @@ Inv-loop scene bytes m looks skip best₀ n₀ i₀ best n i = Asking (probeOf s
 abbrev μ-loop : tie.MeasureT-loop
 μ-loop scene bytes m looks skip best₀ n₀ i₀ best n i = 6 - i
 
+begins : tie.Need-loop-holds Inv-loop μ-loop
+begins c = search asking
+
 ask-way-requires : tie.Need-ask-way-requires Inv-loop μ-loop
 ask-way-requires c κs =
     let round = c .before .before .before in
@@ -31,7 +34,7 @@ ask-round-spec =
     (tie.spec
     Inv-loop
     μ-loop
-    (λ c κs. search needs) (λ c κs. search needs) (λ c. search asking) (λ c κs. search needs)
+    (λ c κs. search needs) (λ c κs. search needs) begins (λ c κs. search needs)
     ask-way-requires
     (λ c. search needs) (λ c. search asking) (λ c. search needs) (λ c. omega arith) (λ c. omega arith)
     loop-again

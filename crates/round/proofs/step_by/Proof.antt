@@ -8,6 +8,9 @@ use Rattle.round.proofs.step_by.Tie as tie
 vectors-fit : tie.Need-subtract-requires
 vectors-fit c κs = both-fit (search named) (search named) tt
 
+first-replaced : tie.Need-returns
+first-replaced c = search step-made
+
 pub step-by-spec : {M : Type 1} → statement M
 step-by-spec =
     tie.close
@@ -15,4 +18,4 @@ step-by-spec =
     (λ c κs. search needs) (λ c κs. search needs) (λ c κs. search index-below) (λ c κs. search index-below)
     vectors-fit
     (λ c κs. search index-below) (λ c κs. search index-below) (λ c. search ranks-fit)
-    (λ c κs. search index-below) (λ c. search step-made))
+    (λ c κs. search index-below) first-replaced)

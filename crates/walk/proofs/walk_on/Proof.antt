@@ -13,6 +13,12 @@ Inv-loop scene bytes level looks q limit m₀ steps₀ n₀ m steps n = Going sc
 abbrev μ-loop : tie.MeasureT-loop
 μ-loop scene bytes level looks q limit m₀ steps₀ n₀ m steps n = limit - steps
 
+step-taken : tie.Need-loop-again Inv-loop μ-loop
+step-taken c = search walks-on
+
+ended : tie.Need-returns-2 Inv-loop μ-loop
+ended c = search walks
+
 pub walk-on-spec : {M : Type 1} → statement M
 walk-on-spec =
     tie.close
@@ -21,5 +27,5 @@ walk-on-spec =
     μ-loop
     (λ c κs. search needs) (λ c κs. search scene-fits) (λ c. search going-begins)
     (λ c κs. search needs) (λ c. search needs) (λ c κs. search needs) (λ c. search needs) (λ c κs. search needs)
-    (λ c κs. search needs) (λ c κs. search (needs, chosen-below, going-small)) (λ c. omega arith) (λ c. omega arith) (λ c. search walks-on)
-    (λ c. search walks) (λ c. search walks) (λ c. search walks))
+    (λ c κs. search needs) (λ c κs. search (needs, chosen-below, going-small)) (λ c. omega arith) (λ c. omega arith) step-taken
+    (λ c. search walks) ended (λ c. search walks))
