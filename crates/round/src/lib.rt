@@ -108,7 +108,7 @@ pub fn step_by(m: &mut [i32; 12], pair: u32)
 
 // ---- level axes take no part in the pairs
 
-// Bit by bit the pairs that take no part.
+// Bit by bit the pairs that take no part: 0 and 2 are of x and y, 1 and 4 of x and z, 3 and 5 of y and z.
 fn skipped(level: Levels) -> u32
     ensures { λ r. ⌜ Skips level r ⌝ }
 {
