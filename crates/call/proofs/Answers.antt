@@ -8,6 +8,7 @@ use lib.IntN.{ℤ, natAbs}
 use lib.ListN.{length}
 use mir.Syntax.{w32}
 use mir.Val.{SFits, toZ, ofZ}
+use mir.Facts.{toZ-ofZ}
 use Rattle.rules.specs.declared.Vector.{Vector}
 use Rattle.rules.specs.declared.Solid.{Solid}
 use Rattle.rules.specs.declared.Levels.{Levels}
@@ -39,6 +40,7 @@ use Rattle.inputs.specs.Inputs.{sceneOf, judgingOf, InputsJudged}
 use Rattle.inputs.specs.Facts.{judged-read, inputs-refused, refused-unlooked, inputs-good, scene-is, scene-ready}
 use Rattle.ready.specs.Facts.{ready-few}
 use Rattle.end.specs.Answers.{is-answer, answer-onward}
+use Rattle.call.specs.Numbers.{isStack, numbersOf, heightOf, solidOf, solid-again}
 use Rattle.call.specs.declared.Call.{Call}
 use Rattle.call.specs.declared.Call.the-variants.{Pick, Touch, Check, Walk}
 use Rattle.call.specs.declared.Outcome.{Outcome}
@@ -212,3 +214,11 @@ module _ {call : Call} {begin : Begin} {solid : Solid} {bytes : List ℕ} {frame
     made-ended i w = record { is = w ∙ ended-as e call (rw b at (judged-read fits-frame fits-reach read)) (rw b at g) i }
 
 pub ruleset made = (made-refused, made-stopped, made-ended)
+
+-- ---- a call of the solid that is made of another's numbers
+pub made-again : {call : Call} {s t : Solid} {bytes : List ℕ} {frame reach : ℤ} {stack : Bool} {n : Vector} {h : ℤ} {r : Outcome} → SFits w32 frame → SFits w32 reach → SFits w32 h
+    → stack ≡ isStack s → n ≡ numbersOf s → h ≡ heightOf s → t ≡ solidOf stack n (toZ w32 (ofZ w32 h))
+    → CallMade call t bytes (toZ w32 (ofZ w32 frame)) (toZ w32 (ofZ w32 reach)) r → CallMade call s bytes frame reach r
+made-again {s = s} {h = h} f g k a b c d m =
+    let e = d ∙ (λ i. solidOf (a i) (b i) ((toZ-ofZ k ∙ c) i)) ∙ solid-again s in
+    rw (e, toZ-ofZ f, toZ-ofZ g) at m

@@ -1,2 +1,3 @@
--- What a call comes to, part by part.
+-- A solid's numbers, and what a call comes to, part by part.
+pub mod Numbers
 pub mod Answers

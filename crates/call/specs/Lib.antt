@@ -1,2 +1,3 @@
--- What one call comes to.
+-- A solid's numbers, and what one call comes to.
+pub mod Numbers
 pub mod Calls

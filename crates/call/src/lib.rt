@@ -4,6 +4,7 @@ ghost use Prim.Native.Nat.{_≤_};
 ghost use Rattle.laws.specs.Tally.{Countable};
 ghost use Rattle.falls.specs.Scene.{probeOf, Ready};
 ghost use Rattle.walk.specs.Walk.{walkQuestions};
+ghost use Rattle.call.specs.Numbers.{isStack, numbersOf, heightOf, solidOf};
 ghost use Rattle.call.specs.Calls.{beginOf, readiedAs, RoundsBegun, endOf, CallMade};
 use falls::Scene;
 use inputs::Begin;
@@ -12,7 +13,9 @@ use rules::Levels;
 use rules::Pick;
 use rules::ReadyStart;
 use rules::Solid;
+use rules::Stack;
 use rules::Vector;
+use rules::Wedge;
 use start::Start;
 
 // What is asked: a pick, a quick touch or a check of a start, or a walk from a ready start.
@@ -83,8 +86,67 @@ fn end_call(call: Call, scene: Scene, bytes: &[u8], level: Levels, looks: u32) -
     }
 }
 
-// The inputs are judged, then the start, the rounds and the end. A quick touch is the same from another start, at power 1 alone; a check ends before the rounds, and a walk from a ready start begins with them. One function for all four: of two each part is compiled as a function of its own, and a pick takes 65 ns longer.
-pub fn make_call(call: Call, solid: Solid, bytes: &[u8], frame: i32, reach: i32) -> Outcome
+// ---- a solid's numbers, the same for both kinds
+
+fn is_stack(solid: Solid) -> bool
+    ensures { λ r. ⌜ r ≡ isStack solid ⌝ }
+{
+    match solid {
+        Solid::Wedge(_) => false,
+        Solid::Stack(_) => true,
+    }
+}
+
+// A wedge's a, b and c, or a stack's sizes.
+fn numbers_of(solid: Solid) -> Vector
+    ensures { λ r. ⌜ r ≡ numbersOf solid ⌝ }
+{
+    match solid {
+        Solid::Wedge(w) => Vector {
+            x: w.a,
+            y: w.b,
+            z: w.c,
+        },
+        Solid::Stack(k) => Vector {
+            x: k.width,
+            y: k.height,
+            z: k.depth,
+        },
+    }
+}
+
+// A stack has none.
+fn height_of(solid: Solid) -> i32
+    ensures { λ r. ⌜ r ≡ heightOf solid ⌝ }
+{
+    match solid {
+        Solid::Wedge(w) => w.h,
+        Solid::Stack(_) => 0,
+    }
+}
+
+fn solid_of(stack: bool, n: Vector, h: i32) -> Solid
+    ensures { λ r. ⌜ r ≡ solidOf stack n h ⌝ }
+{
+    if stack {
+        return Solid::Stack(Stack {
+            width: n.x,
+            height: n.y,
+            depth: n.z,
+        });
+    }
+    Solid::Wedge(Wedge {
+        a: n.x,
+        b: n.y,
+        c: n.z,
+        h: h,
+    })
+}
+
+// ---- the call
+
+// The inputs are judged, then the start, the rounds and the end. A quick touch is the same from another start, at power 1 alone; a check ends before the rounds, and a walk from a ready start begins with them.
+fn answer(call: Call, solid: Solid, bytes: &[u8], frame: i32, reach: i32) -> Outcome
     ensures { λ r. ⌜ CallMade call solid (now (bytes .entry)) frame reach r ⌝ }
 {
     let begin = begin_of(call);
@@ -99,4 +161,14 @@ pub fn make_call(call: Call, solid: Solid, bytes: &[u8], frame: i32, reach: i32)
             }
         }
     }
+}
+
+// One function for all four: of two each part is compiled as a function of its own, and a pick takes 65 ns longer. The solid is read number by number and made anew: copied whole it is loaded sixteen bytes at a time, which waits for the four stores that wrote them, and again wherever its kind is asked.
+pub fn make_call(call: Call, solid: Solid, bytes: &[u8], frame: i32, reach: i32) -> Outcome
+    ensures { λ r. ⌜ CallMade call solid (now (bytes .entry)) frame reach r ⌝ }
+{
+    let stack = is_stack(solid);
+    let n = numbers_of(solid);
+    let h = height_of(solid);
+    answer(call, solid_of(stack, n, h), bytes, frame, reach)
 }

@@ -66,13 +66,3 @@ pub fn ask_falls(scene: Scene, bytes: &[u8], u: Vector, rise: i32, looks: u32) -
     };
     f
 }
-
-// The same of a vector whose rank is not at hand.
-pub fn ask_vector(scene: Scene, bytes: &[u8], u: Vector, looks: u32) -> Falls
-    requires { ⌜ Ready scene (now bytes) × Bounded 2046 u × Countable 1 looks ⌝ }
-    ensures { λ r. ⌜ Fallen (probeOf scene (now (bytes .entry))) u looks r ⌝ }
-{
-    let grid = scene.grid;
-    let rise = solid::rank_of(grid, u);
-    ask_falls(scene, bytes, u, rise, looks)
-}

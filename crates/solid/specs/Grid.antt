@@ -9,6 +9,7 @@ use Rattle.rules.specs.declared.Vector.{Vector}
 use Rattle.rules.specs.declared.Solid.{Solid}
 use Rattle.rules.specs.declared.Solid.the-variants.{Wedge as IsWedge, Stack as IsStack}
 use Rattle.rules.specs.Vectors.{vector}
+use Rattle.rules.specs.Walk.{Axis, axis0, axis1, axis2}
 use Rattle.stack.specs.Bits.{stackRanks, bitAt, BitHeld}
 use Rattle.solid.specs.declared.Grid.{Grid}
 
@@ -23,6 +24,12 @@ grid a b c r = record { width = a; height = b; depth = c; ranks = r }
 abbrev pub gridOf : Solid → Grid
 gridOf (IsWedge w) = grid 1024 1024 1024 (ranksOf (IsWedge w))
 gridOf (IsStack k) = grid (natAbs (k .width)) (natAbs (k .height)) (natAbs (k .depth)) (ranksOf (IsStack k))
+
+-- the side along an axis
+abbrev pub sideAt : Grid → Axis → ℕ
+sideAt g axis0 = g .width
+sideAt g axis1 = g .height
+sideAt g axis2 = g .depth
 
 -- as whole numbers
 abbrev pub sidesOf : Grid → Vector

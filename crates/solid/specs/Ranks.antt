@@ -1,25 +1,30 @@
 -- A permitted solid's grid: its sides are the box's, its ranks are small, and a voxel of the box is filled exactly if its rank says so.
 use mathlib.Core.Path.{_≡_, refl, sym, ap, _∙_}
-use mathlib.Core.Bool.{Bool}
+use mathlib.Core.Bool.{Bool, true, false, _&&_}
 use mathlib.Core.List.{List}
 use Prim.Native.Nat.{ℕ, _*_, _≤_}
 use native.Mathlib.Nat.{mul-le-mul}
 use native.Mathlib.Omega.{arith}
-use lib.Dec.{lit≤}
+use lib.Dec.{T, lit≤}
 use lib.IntN.{ℤ, pos, natAbs}
+use mir.Facts.{and-yes}
 use Rattle.integers.specs.Sizes.{Within, within-wider, within-literal, within-sum, within-product}
 use Rattle.rules.specs.declared.Vector.{Vector}
 use Rattle.rules.specs.declared.Solid.{Solid}
 use Rattle.rules.specs.declared.Solid.the-variants.{Wedge as IsWedge, Stack as IsStack}
 use Rattle.rules.specs.Vectors.{vector, dot}
-use Rattle.rules.specs.Solids.{rowBytes, sliceBytes, filledWedge, box, inBox, filled}
+use Rattle.rules.specs.Solids.{rowBytes, sliceBytes, filledWedge, box, inSide, inBox, filled}
+use Rattle.rules.specs.Walk.{Axis, axis0, axis1, axis2}
 use Rattle.laws.specs.Bounds.{Bounded}
+use Rattle.laws.specs.Parts.{part}
+use Rattle.laws.specs.Tests.{is-true}
+use Rattle.axis.specs.Axes.{withPart}
 use Rattle.stack.specs.Sides.{sized}
 use Rattle.stack.specs.Bits.{stackRanks}
 use Rattle.stack.specs.Voxels.{point-held, rank-low, rank-held, rank-filled}
 use Rattle.solid.specs.declared.Grid.{Grid}
 use Rattle.solid.specs.Asks.{PermittedSolid, InBoxOf}
-use Rattle.solid.specs.Grid.{ranksOf, gridOf, sidesOf, GridRanks, filledAt, RankHeld}
+use Rattle.solid.specs.Grid.{ranksOf, gridOf, sideAt, sidesOf, GridRanks, filledAt, RankHeld}
 use Rattle.solid.specs.Facts.{wedge-asks}
 
 -- ---- the sides and the ranks
@@ -29,6 +34,35 @@ sides-are (IsStack k) h = let s = sized (h .is) .of in λ i. vector (sym (s .wid
 
 pub in-box-by-grid : {s : Solid} {bytes : List ℕ} {g : Grid} (p : Vector) {i : Bool} → PermittedSolid s bytes → g ≡ gridOf s → i ≡ inBox (sidesOf g) p → i ≡ inBox (box s) p
 in-box-by-grid {s} p h e i = i ∙ ap (λ (g : Grid). inBox (sidesOf g) p) e ∙ ap (λ (v : Vector). inBox v p) (sides-are s h)
+
+-- from a voxel of the box along an axis one side alone is asked
+and-true : (b : Bool) → b ≡ b && true
+and-true true = refl
+and-true false = refl
+
+one-side : (sides q : Vector) (k : Axis) (z : ℤ) → inBox sides q ≡ true → inSide (part k sides) z ≡ inBox sides (withPart q k z)
+unfolding inBox
+one-side sides q k z e =
+    let t : T (inBox sides q) = rw e tt in
+    let x = and-yes (inSide (sides .x) (q .x)) _ t in
+    let y = and-yes (inSide (sides .y) (q .y)) _ (x .1) in
+    go k (is-true _ (x .0)) (is-true _ (y .0)) (is-true _ (y .1))
+  where
+    go : (k : Axis) → inSide (sides .x) (q .x) ≡ true → inSide (sides .y) (q .y) ≡ true → inSide (sides .z) (q .z) ≡ true → inSide (part k sides) z ≡ inBox sides (withPart q k z)
+    go axis0 a b c = rw (b, c) (and-true _)
+    go axis1 a b c = rw (a, c) (and-true _)
+    go axis2 a b c = rw (a, b)
+
+part-sides : (g : Grid) (k : Axis) → pos (sideAt g k) ≡ part k (sidesOf g)
+part-sides g axis0 = refl
+part-sides g axis1 = refl
+part-sides g axis2 = refl
+
+pub in-box-along : {s : Solid} {bytes : List ℕ} (q : Vector) (k : Axis) (z : ℤ) {side : ℕ} {i : Bool}
+    → PermittedSolid s bytes → InBoxOf s q → side ≡ sideAt (gridOf s) k → i ≡ inSide (pos side) z → i ≡ inBox (sidesOf (gridOf s)) (withPart q k z)
+in-box-along {s} q k z {side} h p e i =
+    i ∙ ap (λ (n : ℕ). inSide (pos n) z) e ∙ ap (λ (n : ℤ). inSide n z) (part-sides (gridOf s) k)
+    ∙ one-side (sidesOf (gridOf s)) q k z (ap (λ (v : Vector). inBox v q) (sides-are s h) ∙ p .is)
 
 ranks-are : (s : Solid) → gridOf s .ranks ≡ ranksOf s
 ranks-are (IsWedge w) = refl

@@ -1,12 +1,14 @@
 // The two solids behind one look.
 ghost use mathlib.Core.Path.{_≡_};
+ghost use Prim.Native.Nat.{_<_};
 ghost use lib.IntN.{pos};
 ghost use Rattle.rules.specs.Vectors.{dot};
 ghost use Rattle.rules.specs.Solids.{permittedWedge, permitted, inSide, inBox, seenAs, look};
 ghost use mathlib.Core.Bool.{true};
 ghost use Rattle.laws.specs.Bounds.{Bounded};
-ghost use Rattle.solid.specs.Asks.{PermittedSolid};
-ghost use Rattle.solid.specs.Grid.{gridOf, sidesOf, ranksOf, GridRanks, filledAt, RankHeld};
+ghost use Rattle.axis.specs.Axes.{axisAt, withPart};
+ghost use Rattle.solid.specs.Asks.{PermittedSolid, InBoxOf};
+ghost use Rattle.solid.specs.Grid.{gridOf, sideAt, sidesOf, ranksOf, GridRanks, filledAt, RankHeld};
 use rules::Look;
 use rules::Solid;
 use rules::Vector;
@@ -80,6 +82,16 @@ fn is_in_side(side: u16, x: i32) -> bool
     (0 <= x) & (x < (side as i32))
 }
 
+pub fn side_of(g: Grid, axis: u32) -> u16
+    requires { ⌜ axis < 3 ⌝ }
+    ensures { λ r. ⌜ r ≡ sideAt g (axisAt axis) ⌝ }
+{
+    if axis == 0 {
+        return g.width;
+    }
+    if axis == 1 { g.height } else { g.depth }
+}
+
 pub fn is_inside(g: Grid, p: Vector) -> bool
     ensures { λ r. ⌜ r ≡ inBox (sidesOf g) p ⌝ }
 {
@@ -141,6 +153,25 @@ pub fn look_ranked(s: Solid, g: Grid, bytes: &[u8], p: Vector, rank: i32) -> Loo
     ensures { λ r. ⌜ r ≡ look s (now (bytes .entry)) p ⌝ }
 {
     if is_inside(g, p) {
+        return see(s, bytes, rank);
+    }
+    Look::Outside
+}
+
+// The look at the point that has z along an axis and is q, a voxel of the box, along the others: the axis's side alone is asked.
+pub fn look_along(
+    s: Solid,
+    side: u16,
+    bytes: &[u8],
+    q: Vector,
+    axis: u32,
+    z: i32,
+    rank: i32,
+) -> Look
+    requires { ⌜ PermittedSolid s (now bytes) × InBoxOf s q × (side ≡ sideAt (gridOf s) (axisAt axis)) × (rank ≡ dot (ranksOf s) (withPart q (axisAt axis) z)) ⌝ }
+    ensures { λ r. ⌜ r ≡ look s (now (bytes .entry)) (withPart q (axisAt axis) z) ⌝ }
+{
+    if is_in_side(side, z) {
         return see(s, bytes, rank);
     }
     Look::Outside

@@ -41,8 +41,6 @@ module _ {c : Probe} {e : Vector} {n : ℕ} {f : Falls} {u : Vector} (h : Fallen
   unfolding opposite
   opposite-stopped {k} {p} i l = record { gives = rw l (then-no _ (asked-no 0 (gave (lay (c .signs) e) (Stopped p k) h a i))); few = omega (arith, h .few, ap fallsLooks i, ap looksIn l) }
 
-pub ruleset opposing = (opposite-fell, opposite-kept, opposite-stopped)
-
 -- ---- one axis, from what the question of minus its unit vector gave
 pub minus-asked : {c : Probe} {e : Vector} {n : ℕ} {f : Falls} {u : Vector} → u ≡ lay (c .signs) (minus e) → Fallen c u n f → MinusAsked c e n f
 minus-asked a h = record { gives = rw a at (h .gives); few = h .few }
@@ -65,6 +63,9 @@ pub ruleset judging-axis = (axis-fell, axis-kept, axis-stopped)
 -- ---- refusal 7, at the corner
 pub is-opposed : {q s e p : Vector} {n : ℕ} {r : Refused} → CornerAt q s e p → r ≡ refusalOf 7 p 0 n → Opposed q s e n r
 is-opposed i l = record { is = rw (← i .is) l }
+
+pub opposed-at : {q s e u : Vector} {n : ℕ} {r : Refused} → u ≡ e → Opposed q s u n r → Opposed q s e n r
+opposed-at i h = rw (← i) h
 
 -- ---- all three level, or not
 not-all : (v : Levels) {b : Bool} → (v .x && (v .y && v .z)) ≡ b → not (allLevel v) ≡ not b

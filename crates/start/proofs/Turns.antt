@@ -9,31 +9,24 @@ use native.Mathlib.Omega.{arith}
 use borrow.Author.Needs.{needs}
 use lib.ListN.{drop, drop-of-length-le}
 use lib.Seq.{drop-cons}
-use Rattle.rules.specs.declared.Vector.{Vector}
 use Rattle.rules.specs.declared.Levels.{Levels}
 use Rattle.rules.specs.declared.Refused.{Refused}
 use Rattle.rules.specs.Asked.{Asked, _>>=_}
 use Rattle.rules.specs.Walk.{Stop, Axis, axis0, axis1, axis2, allAxes, unit, noneLevel, Probe, isLevel, axes}
-use Rattle.laws.specs.Bounds.{Bounded, bounded-is}
 use Rattle.laws.specs.Tally.{Tally, Gives, mostLooks, then-yes, then-no}
+use Rattle.axis.specs.Axes.{axisAt}
 use Rattle.falls.specs.declared.Falls.{Falls}
+use Rattle.falls.specs.declared.Scene.{Scene}
+use Rattle.along.specs.declared.Line.{Line}
+use Rattle.along.specs.Lines.{LineOf, line-axis, line-in}
 use Rattle.start.specs.declared.AxisAnswer.{AxisAnswer}
 use Rattle.start.specs.declared.AxisAnswer.the-variants.{Asked as IsAsked, Refused as AxisRefused}
 use Rattle.start.specs.declared.Start.{Start}
 use Rattle.start.specs.declared.Start.the-variants.{Refused as IsRefused}
-use Rattle.start.specs.Start.{axisTally, axisLooks, levelsJudged, LevelsJudged, MinusAsked, AxisJudged, axisAt, withLevel, AxesAsked}
-
--- ---- an axis by its number
-unit-bounded : (k : Axis) → Bounded 1 (unit k)
-unit-bounded axis0 = search needs
-unit-bounded axis1 = search needs
-unit-bounded axis2 = search needs
-
-pub unit-small : {e : Vector} (i : ℕ) → e ≡ unit (axisAt i) → Bounded 1 e
-unit-small i u = bounded-is u (unit-bounded (axisAt i))
+use Rattle.start.specs.Start.{axisTally, axisLooks, levelsJudged, LevelsJudged, MinusAsked, AxisJudged, withLevel, AxesAsked}
 
 -- what a question of one axis asks
-pub ruleset one-axis = (unit-small, needs)
+pub ruleset one-axis = (line-in, needs)
 
 axes-from : (i : ℕ) → i < 3 → drop i allAxes ≡ axisAt i ∷ drop (i + 1) allAxes
 axes-from i l = rw (add-one, drop-cons allAxes i axis0)
@@ -63,10 +56,10 @@ module _ {c : Probe} {looks : ℕ} where
     unfolding axesLeft
     asking-ends l j = record { gives = h .rest (rw (drop-of-length-le allAxes l) (j .gives)); few = omega (arith, h .count, h .few, j .few) }
 
-    module _ {e : Vector} {f : Falls} {a : AxisAnswer} (l : i < 3) (u : e ≡ unit (axisAt i)) (m : MinusAsked c e n f) (g : AxisJudged c e f a) where
+    module _ {w : Scene} {d : Line} {f : Falls} {a : AxisAnswer} (l : i < 3) (u : LineOf w i d) (m : MinusAsked c (unit (axisAt (d .axis))) n f) (g : AxisJudged c (unit (axisAt (d .axis))) f a) where
       module _ {r : AxisAnswer} (j : a ≡ r) where
         answer-gives : Gives n (isLevel c (unit (axisAt i))) (axisTally r)
-        answer-gives = rw (u, j) at (g .gives m)
+        answer-gives = rw (line-axis u, j) at (g .gives m)
 
         answer-few : axisLooks r ≤ looks + mostLooks (2 * (i + 1))
         answer-few = omega (arith, h .few, m .few, g .few, ap axisLooks j)

@@ -3,13 +3,12 @@ use mathlib.Core.Path.{_≡_}
 use mathlib.Core.Bool.{Bool, true, false, not}
 use mathlib.Core.List.{[]}
 use Prim.Native.Nat.{ℕ, _+_, _≤_}
-use lib.ListN.{getD}
 use Rattle.rules.specs.declared.Vector.{Vector}
 use Rattle.rules.specs.declared.Levels.{Levels}
 use Rattle.rules.specs.declared.Refused.{Refused}
 use Rattle.rules.specs.Vectors.{_⊕_, minus, lay, unit0}
 use Rattle.rules.specs.Asked.{Asked, answered, _>>=_, _>>_}
-use Rattle.rules.specs.Walk.{Stop, stop, ensure, asked, Axis, axis0, axis1, axis2, allAxes, levels, allLevel, noneLevel, Probe, falls, isLevel, axes, start, quickStart}
+use Rattle.rules.specs.Walk.{Stop, stop, ensure, asked, Axis, axis0, axis1, axis2, levels, allLevel, noneLevel, Probe, falls, isLevel, axes, start, quickStart}
 use Rattle.falls.specs.declared.Falls.{Falls}
 use Rattle.laws.specs.Tally.{Tally, yes, Gives, mostLooks}
 use Rattle.falls.specs.Falls.{fallsTally, fallsLooks}
@@ -54,11 +53,7 @@ pub record LevelsJudged (q s : Vector) (v : Levels) (looks : ℕ) (r : Start) : 
   pub gives : Gives looks (levelsJudged q s v) (startTally r)
   pub few : startLooks r ≤ looks
 
--- ---- the axes by their numbers
-abbrev pub axisAt : ℕ → Axis
-axisAt i = getD allAxes i axis0
-
--- the levels with that axis told
+-- the levels with an axis told
 abbrev pub withLevel : Levels → Axis → Bool → Levels
 withLevel v axis0 b = levels b (v .y) (v .z)
 withLevel v axis1 b = levels (v .x) b (v .z)

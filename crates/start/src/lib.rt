@@ -7,7 +7,10 @@ ghost use Rattle.laws.specs.Frames.{Signs};
 ghost use Rattle.laws.specs.Tally.{Countable};
 ghost use Rattle.falls.specs.Scene.{probeOf, Ready};
 ghost use Rattle.falls.specs.Falls.{fallsLooks};
-ghost use Rattle.start.specs.Start.{Opposed, MinusAsked, OppositeAsked, AxisJudged, LevelsJudged, axisAt, withLevel, told, AxesAsked, quickly, Started};
+ghost use Rattle.along.specs.Lines.{LineIn};
+ghost use Rattle.axis.specs.Axes.{axisAt};
+ghost use Rattle.start.specs.Start.{Opposed, MinusAsked, OppositeAsked, AxisJudged, LevelsJudged, withLevel, told, AxesAsked, quickly, Started};
+use along::Line;
 use facing::Cleared;
 use falls::Falls;
 use falls::Scene;
@@ -38,26 +41,23 @@ fn refuse_axis(scene: Scene, e: Vector, looks: u32) -> Refused
     walk::refusal(7, place, 0, looks)
 }
 
-// Whether minus the unit vector e falls.
-fn ask_minus(scene: Scene, bytes: &[u8], e: Vector, looks: u32) -> Falls
-    requires { ⌜ Ready scene (now bytes) × Bounded 1 e × Countable 1 looks ⌝ }
-    ensures { λ r. ⌜ MinusAsked (probeOf scene (now (bytes .entry))) e looks r ⌝ }
+// Whether minus the unit vector of a line's axis falls.
+fn ask_minus(scene: Scene, bytes: &[u8], line: Line, looks: u32) -> Falls
+    requires { ⌜ Ready scene (now bytes) × LineIn scene line × Countable 1 looks ⌝ }
+    ensures { λ r. ⌜ MinusAsked (probeOf scene (now (bytes .entry))) (unit (axisAt (line .axis))) looks r ⌝ }
 {
-    let s = scene.signs;
-    let u = facing::lay_minus(s, e);
-    falls::ask_vector(scene, bytes, u, looks)
+    along::ask_along(scene, bytes, along::turn(line), looks)
 }
 
-// Minus the unit vector e doesn't fall, so its opposite is asked too: refusal 7 if that falls, else the axis is level.
-fn ask_opposite(scene: Scene, bytes: &[u8], e: Vector, looks: u32) -> AxisAnswer
-    requires { ⌜ Ready scene (now bytes) × Bounded 1 e × Countable 1 looks ⌝ }
-    ensures { λ r. ⌜ OppositeAsked (probeOf scene (now (bytes .entry))) e looks r ⌝ }
+// Minus the unit vector doesn't fall, so its opposite is asked too: refusal 7 if that falls, else the axis is level.
+fn ask_opposite(scene: Scene, bytes: &[u8], line: Line, looks: u32) -> AxisAnswer
+    requires { ⌜ Ready scene (now bytes) × LineIn scene line × Countable 1 looks ⌝ }
+    ensures { λ r. ⌜ OppositeAsked (probeOf scene (now (bytes .entry))) (unit (axisAt (line .axis))) looks r ⌝ }
 {
-    let s = scene.signs;
-    let u = space::lay(s, e);
-    let f = falls::ask_vector(scene, bytes, u, looks);
+    let f = along::ask_along(scene, bytes, line, looks);
     match f {
         Falls::Fell(n) => {
+            let e = axis::unit_of(line.axis);
             let seven = refuse_axis(scene, e, n);
             AxisAnswer::Refused(seven)
         }
@@ -66,30 +66,19 @@ fn ask_opposite(scene: Scene, bytes: &[u8], e: Vector, looks: u32) -> AxisAnswer
     }
 }
 
-// Whether the axis of the unit vector e is level, once minus e was asked.
-fn judge_axis(scene: Scene, bytes: &[u8], e: Vector, asked: Falls) -> AxisAnswer
-    requires { ⌜ Ready scene (now bytes) × Bounded 1 e × Countable 1 (fallsLooks asked) ⌝ }
-    ensures { λ r. ⌜ AxisJudged (probeOf scene (now (bytes .entry))) e asked r ⌝ }
+// Whether the axis of a line is level, once minus its unit vector was asked.
+fn judge_axis(scene: Scene, bytes: &[u8], line: Line, asked: Falls) -> AxisAnswer
+    requires { ⌜ Ready scene (now bytes) × LineIn scene line × Countable 1 (fallsLooks asked) ⌝ }
+    ensures { λ r. ⌜ AxisJudged (probeOf scene (now (bytes .entry))) (unit (axisAt (line .axis))) asked r ⌝ }
 {
     match asked {
         Falls::Fell(n) => AxisAnswer::Asked(false, n),
-        Falls::Kept(n) => ask_opposite(scene, bytes, e, n),
+        Falls::Kept(n) => ask_opposite(scene, bytes, line, n),
         Falls::Stopped(p, n) => AxisAnswer::Refused(walk::refusal(8, p, 0, n)),
     }
 }
 
 // ---- the three axes, by their numbers
-
-// An axis's unit vector, with no branch.
-fn unit_of(axis: u32) -> Vector
-    requires { ⌜ axis < 3 ⌝ }
-    ensures { λ r. ⌜ r ≡ unit (axisAt axis) ⌝ }
-{
-    let x = (axis == 0) as i32;
-    let y = (axis == 1) as i32;
-    let z = (axis == 2) as i32;
-    Vector { x: x, y: y, z: z }
-}
 
 // At an axis's own part what is told, else what was there.
 fn tell(own: bool, is: bool, old: bool) -> bool
@@ -135,8 +124,8 @@ fn ask_axes(scene: Scene, bytes: &[u8], looks: u32) -> Start
     let mut n = looks;
     let mut axis: u32 = 0;
     while axis < 3 {
-        let e = unit_of(axis);
-        let a = judge_axis(scene, bytes, e, ask_minus(scene, bytes, e, n));
+        let line = along::line_of(scene, axis);
+        let a = judge_axis(scene, bytes, line, ask_minus(scene, bytes, line, n));
         match a {
             AxisAnswer::Refused(r) => {
                 return Start::Refused(r);

@@ -12,8 +12,8 @@ use Rattle.solid.specs.Grid.{ranksOf}
 use Rattle.solid.specs.Facts.{empty-bounded}
 use Rattle.falls.specs.Falls.{Falling}
 use Rattle.falls.specs.Sizes.{apex-bounded}
-use Rattle.falls.proofs.Fits.{here-within, ranked-within, way-fits, point-fits, twice-fits}
-use Rattle.falls.proofs.Powers.{falls-begins, falls-on, fallen-back, looked}
+use Rattle.falls.specs.Fits.{here-within, ranked-within, way-fits, point-fits, twice-fits}
+use Rattle.falls.specs.Powers.{falls-begins, falls-on, fallen-back, looked}
 use Rattle.falls.proofs.ask_falls.Statement.{statement}
 use Rattle.falls.proofs.ask_falls.Tie as tie
 

@@ -1,22 +1,24 @@
--- `start::ask_minus` meets its contract: minus the unit vector, laid in, is what `ask_vector` asks.
+-- `start::ask_minus` meets its contract: the line's opposite has minus the unit vector, laid in.
+use mathlib.Core.Path.{ap, _∙_}
 use native.Mathlib.Omega.{arith}
-use Rattle.facing.specs.Units.{fitting}
+use Rattle.along.specs.declared.Line.{Line}
+use Rattle.along.specs.Lines.{wayAlong, Along, line-along, turned-line, line-fits, way-back}
 use Rattle.start.proofs.Axes.{minus-asked}
 use Rattle.start.proofs.ask_minus.Statement.{statement}
 use Rattle.start.proofs.ask_minus.Tie as tie
 
-signs-and-unit-fit : tie.Need-lay-minus-requires
-signs-and-unit-fit c κs = let s = c .before .before in (s .pre .0 .signed, s .pre .1)
+line-turns : tie.Need-turn-requires
+line-turns c κs = let s = c .before in line-fits (s .pre .0) (line-along (s .pre .0) (s .pre .1))
 
-ask-vector-requires : tie.Need-ask-vector-requires
-ask-vector-requires c κs =
+opposite-asks : tie.Need-ask-along-requires
+opposite-asks c κs =
+    let s = c .before .before in
+    (s .pre .0, rw (c .turn .ensures) (turned-line (line-along (s .pre .0) (s .pre .1))), omega arith)
+
+asked : tie.Need-returns
+asked c =
     let s = c .before .before .before in
-    let g = s .pre .0 .signed in
-    (s .pre .0, search fitting, omega arith)
+    minus-asked (ap wayAlong (c .before .turn .ensures) ∙ way-back (s .pre .1)) (c .ask-along .ensures)
 
 pub ask-minus-spec : {M : Type 1} → statement M
-ask-minus-spec =
-    tie.close
-    (tie.spec
-    signs-and-unit-fit
-    ask-vector-requires (λ c. search minus-asked))
+ask-minus-spec = tie.close (tie.spec line-turns opposite-asks asked)

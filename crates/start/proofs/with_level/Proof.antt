@@ -7,7 +7,8 @@ use lib.Dec.{eqb}
 use borrow.Author.Needs.{needs}
 use Rattle.rules.specs.declared.Levels.{Levels}
 use Rattle.rules.specs.Walk.{levels}
-use Rattle.start.specs.Start.{axisAt, withLevel, told}
+use Rattle.axis.specs.Axes.{axisAt}
+use Rattle.start.specs.Start.{withLevel, told}
 use Rattle.start.proofs.with_level.Statement.{statement}
 use Rattle.start.proofs.with_level.Tie as tie
 

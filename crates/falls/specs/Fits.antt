@@ -4,15 +4,19 @@ use mathlib.Core.List.{List}
 use Prim.Native.Nat.{ℕ, _*_}
 use lib.Dec.{lit≤}
 use lib.IntN.{ℤ}
-use Rattle.integers.specs.Sizes.{Within, within-is}
+use Rattle.integers.specs.Sizes.{Within, within-is, within-wider}
 use Rattle.rules.specs.declared.Vector.{Vector}
 use Rattle.rules.specs.Vectors.{_⊖_, dot}
 use Rattle.laws.specs.Bounds.{Bounded, bounded-is, bounded-wider, bounded-difference}
-use Rattle.solid.specs.Grid.{ranksOf}
+use Rattle.solid.specs.declared.Grid.{Grid}
+use Rattle.solid.specs.Grid.{ranksOf, GridRanks}
 use Rattle.solid.specs.Ranks.{rank-within}
 use Rattle.falls.specs.declared.Scene.{Scene}
 use Rattle.falls.specs.Scene.{Ready}
 use Rattle.falls.specs.Sizes.{apex-bounded, apex-fits}
+
+pub ranks-bounded : {g : Grid} → GridRanks g → Bounded 65536 (g .ranks)
+ranks-bounded h = record { in-x = within-wider (h .in-x) (lit≤ tt); in-y = within-wider (h .in-y) (lit≤ tt); in-z = h .in-z }
 
 module _ {v : Scene} {bytes : List ℕ} (h : Ready v bytes) where
   pub here-within : Within (67536 * 1023) (v .here)

@@ -1,0 +1,2 @@
+-- The question along a line, power by power.
+pub mod Alongs

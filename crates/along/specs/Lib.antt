@@ -1,0 +1,3 @@
+-- A line along an axis, and what its question promises.
+pub mod Lines
+pub mod Settled

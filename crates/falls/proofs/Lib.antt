@@ -1,3 +1,0 @@
--- The falls question power by power.
-pub mod Fits
-pub mod Powers
