@@ -77,7 +77,8 @@ pub fn ask_along(scene: Scene, bytes: &[u8], line: Line, looks: u32) -> Falls
         let seen = solid::look_along(solid, side, bytes, q, axis, at, rank);
         match seen {
             Look::Outside => {
-                break Falls::Stopped(axis::with_part(q, axis, at), n);
+                let p = axis::with_part(q, axis, at);
+                break Falls::Stopped(p, n);
             }
             Look::Filled => {
                 let last = n + 1;
