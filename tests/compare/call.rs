@@ -342,16 +342,16 @@ impl Batch {
         }
     }
 
-    /// Runs that are not all zero, eight bytes at a time.
+    /// Runs that are not all zero, 64 bytes at a time.
     fn bytes(&mut self, bytes: &[u8]) {
-        const PIECE: usize = 8;
+        const PIECE: usize = 64;
         self.put(bytes.len() as u32);
         let runs_at = self.text.len();
         self.put(0);
         let mut runs = 0u32;
         let mut at = 0;
         while at < bytes.len() {
-            let filled = |piece: &[u8]| piece.iter().any(|&byte| byte != 0);
+            let filled = |piece: &[u8]| piece.iter().fold(0, |all, &byte| all | byte) != 0;
             let pieces = bytes[at..].chunks(PIECE).take_while(|piece| filled(piece)).count();
             let end = (at + pieces * PIECE).min(bytes.len());
             if pieces > 0 {

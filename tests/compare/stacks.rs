@@ -44,8 +44,14 @@ impl Block {
         let mut bytes = chance.bytes(sizes.stack_bytes());
         for z in 0..depth {
             for y in 0..height {
-                for x in 0..width {
-                    set(&mut bytes, sizes, [x, y, z], filled([x, y, z]));
+                for first in (0..width).step_by(8) {
+                    // The voxels of a byte, which follow the first one's bit.
+                    let (byte, bit) = sizes.bit_place([first, y, z]);
+                    let voxels = (first..width.min(first + 8)).map(|x| (bit >> (x - first), x));
+                    let (ours, ones) = voxels.fold((0, 0), |(ours, ones), (bit, x)| {
+                        (ours | bit, ones | if filled([x, y, z]) { bit } else { 0 })
+                    });
+                    bytes[byte] = bytes[byte] & !ours | ones;
                 }
             }
         }
@@ -131,12 +137,14 @@ fn noise(chance: &mut Chance, sides: Point, start: Point, signs: Point) -> Block
     let level = level_axes(chance);
     let across = |point: Point| [0, 1, 2].map(|axis| if level[axis] { 0 } else { point[axis] });
     let good_start = chance.percent(80);
+    let (below, above) = (across(start), across(plus(start, signs)));
     let seed = chance.bits();
     Block::of(chance, sides, |point| {
-        let place @ [x, y, z] = across(point);
-        if good_start && place == across(start) {
+        let [x, y, z] = across(point);
+        let is = |place: Point| x == place[0] && y == place[1] && z == place[2];
+        if good_start && is(below) {
             true
-        } else if good_start && place == across(plus(start, signs)) {
+        } else if good_start && is(above) {
             false
         } else {
             Chance::of(seed, "noise", (x + 256 * (y + 256 * z)) as u64).percent(density)

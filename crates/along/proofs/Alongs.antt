@@ -22,7 +22,8 @@ use Rattle.falls.specs.Sizes.{apex-bounded}
 use Rattle.falls.specs.declared.Falls.{Falls}
 use Rattle.falls.specs.declared.Falls.the-variants.{Stopped}
 use Rattle.falls.specs.Falls.{Fallen, Falling}
-use Rattle.along.specs.Lines.{wayAlong, Along, way-bounded}
+use Rattle.along.specs.Lines.{wayAlong, Along}
+use Rattle.along.specs.Facts.{way-bounded}
 use Rattle.falls.specs.Powers.{falls-begins, falls-on, fallen-back}
 
 -- of a point, by its part

@@ -40,7 +40,8 @@ use Rattle.inputs.specs.Inputs.{sceneOf, judgingOf, InputsJudged}
 use Rattle.inputs.specs.Facts.{judged-read, inputs-refused, refused-unlooked, inputs-good, scene-is, scene-ready}
 use Rattle.ready.specs.Facts.{ready-few}
 use Rattle.end.specs.Answers.{is-answer, answer-onward}
-use Rattle.call.specs.Numbers.{isStack, numbersOf, heightOf, solidOf, solid-again}
+use Rattle.call.specs.Numbers.{isStack, numbersOf, heightOf, solidOf}
+use Rattle.call.proofs.Numbers.{solid-again}
 use Rattle.call.specs.declared.Call.{Call}
 use Rattle.call.specs.declared.Call.the-variants.{Pick, Touch, Check, Walk}
 use Rattle.call.specs.declared.Outcome.{Outcome}

@@ -1,5 +1,4 @@
 -- A solid by its kind and its numbers, of which both kinds have as many.
-use mathlib.Core.Path.{_≡_, refl}
 use mathlib.Core.Bool.{Bool, true, false}
 use lib.IntN.{ℤ, pos}
 use Rattle.rules.specs.declared.Vector.{Vector}
@@ -22,7 +21,3 @@ heightOf (IsStack k) = pos 0
 abbrev pub solidOf : Bool → Vector → ℤ → Solid
 solidOf true n h = IsStack (record { width = n .x; height = n .y; depth = n .z })
 solidOf false n h = IsWedge (record { a = n .x; b = n .y; c = n .z; h = h })
-
-pub solid-again : (s : Solid) → solidOf (isStack s) (numbersOf s) (heightOf s) ≡ s
-solid-again (IsWedge w) = refl
-solid-again (IsStack k) = refl

@@ -1,3 +1,4 @@
 -- p and q, and the corners one by one.
+pub mod Units
 pub mod Facing
 pub mod Corners

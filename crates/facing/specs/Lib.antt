@@ -1,4 +1,3 @@
 -- What the looks at p, q and the corners promise.
 pub mod Facing
-pub mod Units
 pub mod Settled

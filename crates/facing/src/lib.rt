@@ -44,7 +44,7 @@ pub fn face(scene: Scene, bytes: &[u8], p: Vector) -> Cleared
 // ---- the corners
 
 // Minus the unit vector e, laid in.
-pub fn lay_minus(s: Vector, e: Vector) -> Vector
+fn lay_minus(s: Vector, e: Vector) -> Vector
     requires { ⌜ Signs s × Bounded 1 e ⌝ }
     ensures { λ r. ⌜ r ≡ lay s (minus e) ⌝ }
 {

@@ -18,7 +18,8 @@ use Rattle.axis.specs.Axes.{axisAt}
 use Rattle.falls.specs.declared.Falls.{Falls}
 use Rattle.falls.specs.declared.Scene.{Scene}
 use Rattle.along.specs.declared.Line.{Line}
-use Rattle.along.specs.Lines.{LineOf, line-axis, line-in}
+use Rattle.along.specs.Lines.{LineOf}
+use Rattle.along.specs.Facts.{line-axis, line-in}
 use Rattle.start.specs.declared.AxisAnswer.{AxisAnswer}
 use Rattle.start.specs.declared.AxisAnswer.the-variants.{Asked as IsAsked, Refused as AxisRefused}
 use Rattle.start.specs.declared.Start.{Start}

@@ -11,7 +11,7 @@ use Rattle.rules.specs.Solids.{look}
 use Rattle.axis.specs.Axes.{axisAt, withPart}
 use Rattle.solid.specs.Grid.{ranksOf}
 use Rattle.falls.specs.Falls.{Falling}
-use Rattle.along.specs.Lines.{step-within, rise-within}
+use Rattle.along.specs.Facts.{step-within, rise-within}
 use Rattle.falls.specs.Fits.{here-within, ranked-within}
 use Rattle.falls.specs.Powers.{falls-stopped, falls-fell, falls-kept}
 use Rattle.along.proofs.Alongs.{part-sized, stopped-at, from-within, along-begins, along-on, along-ends}

@@ -8,7 +8,7 @@ use Rattle.integers.specs.Sizes.{within-is}
 use Rattle.axis.specs.Axes.{axisAt}
 use Rattle.axis.specs.Along.{part-within}
 use Rattle.falls.specs.Sizes.{signs-bounded}
-use Rattle.along.specs.Lines.{line-is}
+use Rattle.along.specs.Facts.{line-is}
 use Rattle.falls.specs.Fits.{ranks-bounded}
 use Rattle.along.proofs.line_of.Statement.{statement}
 use Rattle.along.proofs.line_of.Tie as tie

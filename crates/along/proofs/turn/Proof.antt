@@ -1,7 +1,7 @@
 -- `along::turn` meets its contract: two numbers change their signs.
 use mathlib.Core.Path.{refl}
 use Rattle.integers.specs.Machine.{machine, typed, fits, value}
-use Rattle.along.specs.Lines.{line-is}
+use Rattle.along.specs.Facts.{line-is}
 use Rattle.along.proofs.turn.Statement.{statement}
 use Rattle.along.proofs.turn.Tie as tie
 

@@ -1,5 +1,5 @@
 -- `facing::corner` meets its contract: the apex, less a unit vector that was laid in.
-use Rattle.facing.specs.Units.{fitting}
+use Rattle.facing.proofs.Units.{fitting}
 use Rattle.facing.proofs.Corners.{is-corner}
 use Rattle.facing.proofs.corner.Statement.{statement}
 use Rattle.facing.proofs.corner.Tie as tie

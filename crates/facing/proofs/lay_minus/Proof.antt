@@ -1,6 +1,6 @@
 -- `facing::lay_minus` meets its contract: the opposite, laid in.
 use borrow.Author.Needs.{needs}
-use Rattle.facing.specs.Units.{fitting}
+use Rattle.facing.proofs.Units.{fitting}
 use Rattle.facing.proofs.lay_minus.Statement.{statement}
 use Rattle.facing.proofs.lay_minus.Tie as tie
 

@@ -2,7 +2,8 @@
 use mathlib.Core.Path.{ap, _∙_}
 use native.Mathlib.Omega.{arith}
 use Rattle.along.specs.declared.Line.{Line}
-use Rattle.along.specs.Lines.{wayAlong, Along, line-along, turned-line, line-fits, way-back}
+use Rattle.along.specs.Lines.{wayAlong, Along}
+use Rattle.along.specs.Facts.{line-along, turned-line, line-fits, way-back}
 use Rattle.start.proofs.Axes.{minus-asked}
 use Rattle.start.proofs.ask_minus.Statement.{statement}
 use Rattle.start.proofs.ask_minus.Tie as tie

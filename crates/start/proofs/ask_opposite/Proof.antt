@@ -5,7 +5,7 @@ use Rattle.laws.specs.Bounds.{bounded-is}
 use Rattle.axis.specs.Axes.{axisAt}
 use Rattle.axis.specs.Along.{unit-bounded}
 use Rattle.falls.specs.Sizes.{apex-fits}
-use Rattle.along.specs.Lines.{line-along, way-laid}
+use Rattle.along.specs.Facts.{line-along, way-laid}
 use Rattle.start.proofs.Axes.{opposite-fell, opposite-kept, opposite-stopped, opposed-at}
 use Rattle.start.proofs.ask_opposite.Statement.{statement}
 use Rattle.start.proofs.ask_opposite.Tie as tie

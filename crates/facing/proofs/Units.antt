@@ -10,9 +10,6 @@ use Rattle.falls.specs.Sizes.{signs-bounded}
 pub unit-fits : {e : Vector} → Bounded 1 e → Bounded 1000000000 e
 unit-fits h = bounded-wider h (lit≤ tt)
 
-pub unit-way : {e : Vector} → Bounded 1 e → Bounded 2046 e
-unit-way h = bounded-wider h (lit≤ tt)
-
 pub opposite-unit : {e w : Vector} → Bounded 1 e → w ≡ minus e → Bounded 1 w
 opposite-unit h b = bounded-is b (bounded-opposite h)
 
@@ -22,4 +19,4 @@ laid-unit g h a = bounded-is a (bounded-lay (signs-bounded g) h)
 pub laid-opposite : {s e u : Vector} → Signs s → Bounded 1 e → u ≡ lay s (minus e) → Bounded 1 u
 laid-opposite g h a = laid-unit g (bounded-opposite h) a
 
-pub ruleset fitting = (signs-bounded, unit-fits, unit-way, opposite-unit, laid-unit, laid-opposite)
+pub ruleset fitting = (signs-bounded, unit-fits, opposite-unit, laid-unit, laid-opposite)
