@@ -1,11 +1,10 @@
 -- Document 01's cases W1 to W8 (W6 as document 02's 2026-01 has it), with the triangles where it gives them, U1 and U2, level faces and small reaches, lines of a session
--- that need care, stacks whose comments touch (2026-02), quick touches (2026-04), and start checks and walks from ready starts (2026-05): one statement over a list, by evaluation.
+-- that need care, quick touches (2026-04), and start checks and walks from ready starts (2026-05): one statement over a list, by evaluation.
 use mathlib.Core.Path.{_≡_, refl}
 use mathlib.Core.Bool.{true, false}
 use mathlib.Core.List.{List, [], _∷_, map}
 use Prim.Native.Nat.{ℕ}
-use Prim.Native.Char.{code}
-use Prim.Native.String.{String, [] as nothing, _∷_ as _then_}
+use Prim.Native.String.{String}
 use lib.IntN.{ℤ, pos, negsuc}
 use lib.Ieee.{binary32, round as rounded}
 use Rattle.rules.specs.declared.Solid.the-variants.{Wedge as IsWedge}
@@ -24,21 +23,21 @@ use Rattle.rules.specs.declared.Line.the-variants.{Asks, OtherForm}
 use Rattle.rules.specs.declared.Display.{Display}
 use Rattle.rules.specs.declared.Display.the-variants.{Lit}
 use Rattle.rules.specs.Vectors.{vector, _⊕_, _⊖_, minus, scale, dot, cross, det, sphere, lay, size}
-use Rattle.rules.specs.Solids.{between, rowBytes, sliceBytes, permittedWedge, filledWedge, inBox, look}
+use Rattle.rules.specs.Solids.{between, permittedWedge, filledWedge, inBox, look}
 use Rattle.rules.specs.Asked.{after, _>>=_}
 use Rattle.rules.specs.Walk.{levels, noneLevel, ensure, sign, signs, seen, asked, powersFrom, powers, triangle, normal, allLevel, keep, only, remaining, takesPart, levelled, determinant, inside, anyInside, firstFree, choice, lookAt, fallsAt, facing, isLevel, axes, start, cornersFilled, allCorners, quickStart, falling, round, walk, rounds, found, end}
 use Rattle.rules.specs.Pick.{isInside, placing, judging, check, pick, answer, pickOf}
 use Rattle.rules.specs.TwoCalls.{readyStart, checkAnswer, checkOf, isReady, readiness, walkOn, answerFrom, walkAnswer, walkOf}
 use Rattle.rules.specs.Touch.{touch, marked, touchOf}
-use Rattle.rules.specs.P4.{Judged, good, wrong, _>>=_ as _onward_, judge, stands, isEnd, isWhite, commentAt, white, mix, digitsAt, fieldAt, headerAt, padding, cut, row, rows, imageAt, imagesAt, sizes, Contents, contents}
+use Rattle.rules.specs.Texts.{bytes}
 use Rattle.rules.specs.Decimals.{isDigit, areDigits, value, figure, digits}
 use Rattle.rules.specs.Display.{largest, sizeOf, component, permittedNormal, light, display}
 use Rattle.rules.specs.Session.{parts, fewDigits, within32, signed, number, next, onlyThese, question, three, counts, toldAccepted, toldRefused, told, reply, replies, session}
 
 -- a session; a line of it, for the triangle vectors that its pick ends with, for its touch, or for the vectors of that, for its start check; a line and what else a walk is handed
--- beside the line's start: the apex, the level axes and the looks; a P4 file; whole numbers to display
+-- beside the line's start: the apex, the level axes and the looks; whole numbers to display
 data Case : Type 0 where
-  prints corners touches guesses checks reads : String → Case
+  prints corners touches guesses checks : String → Case
   walks : String → Vector → Levels → ℕ → Case
   shows : ℤ → ℤ → ℤ → Case
 
@@ -48,14 +47,8 @@ data Result : Type 0 where
   guessed : Vector → ℕ → ℕ → Result
   refused : ℕ → Vector → ℕ → ℕ → Result
   readied : ReadyStart → Result
-  judged : Judged Contents → Result
   shown : Display → Result
   none : Result
-
--- the bytes of a text
-bytes : String → List ℕ
-bytes nothing = []
-bytes (c then more) = code c ∷ bytes more
 
 vectorsOf : Pick → Result
 vectorsOf (Accepted a) = vectors (a .triangle)
@@ -96,22 +89,15 @@ run (touches line) = touchedBy guessOf (question (bytes line))
 run (guesses line) = touchedBy guessVectors (question (bytes line))
 run (checks line) = checkBy (question (bytes line))
 run (walks line apex level looks) = walkBy apex level looks (question (bytes line))
-run (reads input) = judged (contents (bytes input))
 run (shows x y z) = shown (display x y z)
 
--- what the list expects: a text, the vectors (1,0,0), (-1,1,0), (-2,-1,1), a stack's sizes and rows or a refusal, a touch or a check refused at a place, a ready start of W1's
+-- what the list expects: a text, the vectors (1,0,0), (-1,1,0), (-2,-1,1), a touch or a check refused at a place, a ready start of W1's
 -- start and apex, or sizes over 32768
 says : String → Result
 says output = text (bytes output)
 
 ends : Result
 ends = vectors (triangle (vector (pos 1) (pos 0) (pos 0)) (vector (negsuc 0) (pos 1) (pos 0)) (vector (negsuc 1) (negsuc 0) (pos 1)))
-
-holds : ℕ → ℕ → ℕ → List ℕ → Result
-holds width height depth rows = judged (good (record { stack = sizes width height depth; bytes = rows }))
-
-refuses : ℕ → ℕ → Result
-refuses number place = judged (wrong number place)
 
 stops : ℕ → ℕ → ℕ → ℕ → ℕ → ℕ → Result
 stops number x y z steps looks = refused number (vector (pos x) (pos y) (pos z)) steps looks
@@ -159,25 +145,6 @@ worked-cases :
     ∷ prints "1 2 5 808 1  1 1 0 8\n 1 2 5 808 1 1 1 0 8\n1 2 5 808 1 1 1 0 8 \n"
     ∷ prints "1 2 5 808 1 1 1 0 8\r\n+1 2 5 808 1 1 1 0 8\n1 2 5 808 1 1 1 - 8\n"
     ∷ prints "1 2 5 808 1 1 1 0\n1 2 5 808 1 1 1 0 8 9\n"
-    ∷ reads "P4#c\n3 2\n\u{a0}@"
-    ∷ reads "P4#c\r3 2\n\u{a0}@"
-    ∷ reads "P4\n3#w\n2\n\u{a0}@"
-    ∷ reads "P4\n3#w\n#x\n 2#h\n\u{a0}@"
-    ∷ reads "P4#a\n#b\n\t3 2\n\u{a0}@"
-    ∷ reads "P4\n3 2##\n\u{a0}@"
-    ∷ reads "P4\n3#2\n2#\n\u{a0}@"
-    ∷ reads "P4\n3 2#h\r\n@"
-    ∷ reads "P4\n3 2 #h\n"
-    ∷ reads "P4#"
-    ∷ reads "P4#c"
-    ∷ reads "P4\n3 2#h"
-    ∷ reads "P4\n0#w"
-    ∷ reads "P4\n0#w\n"
-    ∷ reads "P4\n300#w\n2#h\n"
-    ∷ reads "P4#a\nx"
-    ∷ reads "P4x"
-    ∷ reads "P4\n3 2#h\n\u{a0}"
-    ∷ reads "P4\n3 2#h\n\u{a0}@P4#z\n3#\n2#\n À"
     ∷ touches "1 2 5 808 100 100 100 0 8"
     ∷ guesses "1 2 5 808 100 100 100 0 8"
     ∷ touches "1 2 5 807 100 100 100 0 8"
@@ -253,25 +220,6 @@ worked-cases :
     ∷ says "B\nB\nB\n"
     ∷ says "B\nB\nB\n"
     ∷ says "B\nB\n"
-    ∷ holds 3 2 1 (160 ∷ 64 ∷ [])
-    ∷ holds 3 2 1 (160 ∷ 64 ∷ [])
-    ∷ holds 3 2 1 (160 ∷ 64 ∷ [])
-    ∷ holds 3 2 1 (160 ∷ 64 ∷ [])
-    ∷ holds 3 2 1 (160 ∷ 64 ∷ [])
-    ∷ holds 3 2 1 (160 ∷ 64 ∷ [])
-    ∷ holds 3 2 1 (160 ∷ 64 ∷ [])
-    ∷ holds 3 2 1 (0 ∷ 64 ∷ [])
-    ∷ refuses 21 9
-    ∷ refuses 22 3
-    ∷ refuses 22 4
-    ∷ refuses 22 8
-    ∷ refuses 22 6
-    ∷ refuses 23 3
-    ∷ refuses 23 3
-    ∷ refuses 22 5
-    ∷ refuses 22 2
-    ∷ refuses 25 10
-    ∷ holds 3 2 2 (160 ∷ 64 ∷ 32 ∷ 192 ∷ [])
     ∷ guessed (vector (pos 1) (pos 2) (pos 5)) 5 41
     ∷ ends
     ∷ stops 11 100 101 101 0 3
@@ -315,5 +263,5 @@ worked-cases :
     ∷ says "R 13 0 0 0 0 0\n"
     ∷ says "R 8 -1 3 1 0 6\n"
     ∷ []
-unfolding run bytes cornersOf vectorsOf guessOf guessVectors touchedBy checkedBy checkBy walkBy says ends holds refuses stops at hands over _⊕_ _⊖_ minus scale dot cross det sphere lay size between permittedWedge filledWedge inBox look after _>>=_ ensure sign signs seen asked powersFrom powers normal allLevel keep only remaining takesPart levelled determinant inside anyInside firstFree choice lookAt fallsAt facing isLevel axes start cornersFilled allCorners quickStart falling round walk rounds found end isInside placing judging check pick answer pickOf checkAnswer checkOf isReady readiness walkOn answerFrom walkAnswer walkOf touch marked touchOf isDigit areDigits value figure digits parts fewDigits within32 signed number next onlyThese question three counts toldAccepted toldRefused told reply replies session largest sizeOf component permittedNormal light display rowBytes sliceBytes _onward_ judge stands isEnd isWhite commentAt white mix digitsAt fieldAt headerAt padding cut row rows imageAt imagesAt contents
+unfolding run bytes cornersOf vectorsOf guessOf guessVectors touchedBy checkedBy checkBy walkBy says ends stops at hands over _⊕_ _⊖_ minus scale dot cross det sphere lay size between permittedWedge filledWedge inBox look after _>>=_ ensure sign signs seen asked powersFrom powers normal allLevel keep only remaining takesPart levelled determinant inside anyInside firstFree choice lookAt fallsAt facing isLevel axes start cornersFilled allCorners quickStart falling round walk rounds found end isInside placing judging check pick answer pickOf checkAnswer checkOf isReady readiness walkOn answerFrom walkAnswer walkOf touch marked touchOf isDigit areDigits value figure digits parts fewDigits within32 signed number next onlyThese question three counts toldAccepted toldRefused told reply replies session largest sizeOf component permittedNormal light display
 worked-cases = refl

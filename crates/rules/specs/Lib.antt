@@ -1,4 +1,4 @@
--- Documents 01 and 02 as definitions, in document 01's order; `Cases` has its worked cases, proved.
+-- Documents 01 and 02 as definitions, in document 01's order; `Cases` and `Comments` have the worked cases, proved.
 pub mod Vectors
 pub mod Solids
 pub mod Asked
@@ -10,4 +10,6 @@ pub mod Decimals
 pub mod P4
 pub mod Display
 pub mod Session
+pub mod Texts
 pub mod Cases
+pub mod Comments
