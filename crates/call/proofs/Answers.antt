@@ -28,7 +28,8 @@ use Rattle.laws.specs.Answers.{stopOf}
 use Rattle.laws.specs.Tally.{Tally, yes, no, tally, Gives, Countable, then-yes, then-no, inner-yes, inner-no, ensured, not-ensured, was-answered}
 use Rattle.falls.specs.declared.Scene.{Scene}
 use Rattle.falls.specs.Scene.{probeOf, Ready as SceneReady}
-use Rattle.walk.specs.Walk.{refusalOf, refusalTally, walkQuestions}
+use Rattle.refusals.specs.Refusals.{refusalOf, refusalTally}
+use Rattle.walk.specs.Walk.{walkQuestions}
 use Rattle.start.specs.Start.{startTally, startLooks, startOf as askedStart, Started}
 use Rattle.start.specs.declared.Start.{Start}
 use Rattle.start.specs.declared.Start.the-variants.{Begun, Refused as StartRefused}

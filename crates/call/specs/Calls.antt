@@ -22,7 +22,7 @@ use Rattle.rules.specs.Touch.{touch}
 use Rattle.rules.specs.TwoCalls.{readyStart, checkOf, isReady, answerFrom, walkOf}
 use Rattle.falls.specs.declared.Scene.{Scene}
 use Rattle.falls.specs.Scene.{probeOf}
-use Rattle.walk.specs.Walk.{refusalOf}
+use Rattle.refusals.specs.Refusals.{refusalOf}
 use Rattle.start.specs.declared.Start.{Start}
 use Rattle.start.specs.declared.Start.the-variants.{Begun, Refused as StartRefused}
 use Rattle.start.specs.Start.{Started}

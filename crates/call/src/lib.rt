@@ -53,7 +53,7 @@ fn judge_ready(d: ReadyStart, reach: u32) -> Start
         Start::Begun(level, d.looks)
     } else {
         let origin = Vector { x: 0, y: 0, z: 0 };
-        Start::Refused(walk::refusal(13, origin, 0, 0))
+        Start::Refused(refusals::refusal(13, origin, 0, 0))
     }
 }
 

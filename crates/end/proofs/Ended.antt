@@ -19,7 +19,8 @@ use Rattle.falls.specs.declared.Scene.{Scene}
 use Rattle.falls.specs.Scene.{probeOf, Ready}
 use Rattle.choice.specs.Sound.{Sound}
 use Rattle.round.specs.Corners.{laid-laid}
-use Rattle.walk.specs.Walk.{refusalOf, Walks}
+use Rattle.refusals.specs.Refusals.{refusalOf}
+use Rattle.walk.specs.Walk.{Walks}
 use Rattle.walk.specs.declared.Walked.{Walked}
 use Rattle.walk.specs.declared.Walked.the-variants.{Ended as WalkEnded, Refused as WalkRefused}
 use Rattle.end.specs.End.{EndGives, WalkedToEnd}

@@ -11,7 +11,7 @@ use Rattle.laws.specs.Tally.{Tally, yes, Gives}
 use Rattle.laws.specs.Answers.{foundOf}
 use Rattle.falls.specs.declared.Scene.{Scene}
 use Rattle.falls.specs.Scene.{probeOf}
-use Rattle.walk.specs.Walk.{refusalTally}
+use Rattle.refusals.specs.Refusals.{refusalTally}
 
 abbrev pub pickTally : Pick → Tally Stop Found
 pickTally (Accepted a) = yes (foundOf a) (a .looks)

@@ -88,7 +88,7 @@ fn end_walk(scene: Scene, level: Levels, m: Triangle, steps: u32, looks: u32) ->
             looks: looks,
         })
     } else {
-        Pick::Refused(walk::refusal(10, q, steps, looks))
+        Pick::Refused(refusals::refusal(10, q, steps, looks))
     }
 }
 

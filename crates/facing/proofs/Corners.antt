@@ -13,7 +13,7 @@ use Rattle.rules.specs.declared.Refused.{Refused}
 use Rattle.rules.specs.Vectors.{_⊕_, minus, lay, unit0, unit1, unit2}
 use Rattle.rules.specs.Walk.{Stop, stop, Probe, corner, cornersFilled}
 use Rattle.laws.specs.Tally.{Tally, yes, no, Countable, then-yes, then-no, asked-yes, asked-no, ensured, not-ensured, at-once, filled-there, empty-there, outside-there}
-use Rattle.walk.specs.Walk.{refusalOf}
+use Rattle.refusals.specs.Refusals.{refusalOf}
 use Rattle.facing.specs.declared.Cleared.{Cleared}
 use Rattle.facing.specs.declared.Cleared.the-variants.{Clear, Refused as IsRefused}
 use Rattle.facing.specs.Facing.{clearedTally, clearedLooks, rest, CornerAt, CornerAsked, CornersAsked}

@@ -9,7 +9,7 @@ use Rattle.rules.specs.declared.Refused.{Refused}
 use Rattle.rules.specs.Asked.{_>>=_}
 use Rattle.rules.specs.Walk.{Stop, stop, ensure, asked, lookAt, Probe, facing}
 use Rattle.laws.specs.Tally.{Tally, Gives, then-yes, then-no, asked-yes, asked-no, ensured, not-ensured, filled-there, empty-there, outside-there}
-use Rattle.walk.specs.Walk.{refusalOf}
+use Rattle.refusals.specs.Refusals.{refusalOf}
 use Rattle.facing.specs.Facing.{FacingAsked}
 use Rattle.facing.specs.declared.Cleared.the-variants.{Clear, Refused as IsRefused}
 

@@ -6,7 +6,7 @@ use Rattle.rules.specs.declared.Vector.{Vector}
 use Rattle.rules.specs.Vectors.{_⊕_, minus, lay}
 use Rattle.rules.specs.Walk.{Stop, axis0, axis1, axis2, unit, Probe, facing, cornersFilled}
 use Rattle.laws.specs.Tally.{Tally, yes, no, tally, Gives}
-use Rattle.walk.specs.Walk.{refusalTally}
+use Rattle.refusals.specs.Refusals.{refusalTally}
 use Rattle.facing.specs.declared.Cleared.{Cleared}
 use Rattle.facing.specs.declared.Cleared.the-variants.{Clear, Refused as IsRefused}
 

@@ -28,13 +28,13 @@ pub fn face(scene: Scene, bytes: &[u8], p: Vector) -> Cleared
     let here = scene.here;
     let at_start = solid::look_at(solid, grid, bytes, p);
     match at_start {
-        Look::Outside => Cleared::Refused(walk::refusal(8, p, 0, 0)),
-        Look::Empty => Cleared::Refused(walk::refusal(5, p, 0, 1)),
+        Look::Outside => Cleared::Refused(refusals::refusal(8, p, 0, 0)),
+        Look::Empty => Cleared::Refused(refusals::refusal(5, p, 0, 1)),
         Look::Filled => {
             let at_apex = solid::look_ranked(solid, grid, bytes, q, here);
             match at_apex {
-                Look::Outside => Cleared::Refused(walk::refusal(8, q, 0, 1)),
-                Look::Filled => Cleared::Refused(walk::refusal(6, q, 0, 2)),
+                Look::Outside => Cleared::Refused(refusals::refusal(8, q, 0, 1)),
+                Look::Filled => Cleared::Refused(refusals::refusal(6, q, 0, 2)),
                 Look::Empty => Cleared::Clear(2),
             }
         }
@@ -74,8 +74,8 @@ fn ask_corner(scene: Scene, bytes: &[u8], e: Vector, sofar: Cleared) -> Cleared
             let grid = scene.grid;
             let seen = solid::look_at(solid, grid, bytes, place);
             match seen {
-                Look::Outside => Cleared::Refused(walk::refusal(8, place, 0, n)),
-                Look::Empty => Cleared::Refused(walk::refusal(11, place, 0, n + 1)),
+                Look::Outside => Cleared::Refused(refusals::refusal(8, place, 0, n)),
+                Look::Empty => Cleared::Refused(refusals::refusal(11, place, 0, n + 1)),
                 Look::Filled => Cleared::Clear(n + 1),
             }
         }

@@ -24,7 +24,7 @@ use Rattle.solid.specs.Facts.{inside-bounded}
 use Rattle.solid.specs.Ranks.{in-box-by-grid, rank-by-grid, ranks-small}
 use Rattle.falls.specs.Sizes.{signs-bounded}
 use Rattle.falls.specs.Scene.{probeOf}
-use Rattle.walk.specs.Walk.{refusalOf}
+use Rattle.refusals.specs.Refusals.{refusalOf}
 use Rattle.inputs.specs.declared.Begin.{Begin}
 use Rattle.inputs.specs.declared.Begin.the-variants.{Asked as IsAsked, Handed}
 use Rattle.inputs.specs.declared.Fit.{Fit}

@@ -11,7 +11,7 @@ use Rattle.rules.specs.declared.Refused.{Refused}
 use Rattle.laws.specs.Tally.{yes, Gives}
 use Rattle.falls.specs.declared.Scene.{Scene}
 use Rattle.falls.specs.Scene.{Ready}
-use Rattle.walk.specs.Walk.{refusalTally}
+use Rattle.refusals.specs.Refusals.{refusalTally}
 use Rattle.inputs.specs.declared.Begin.{Begin}
 use Rattle.inputs.specs.declared.Fit.{Fit}
 use Rattle.inputs.specs.declared.Fit.the-variants.{Scene as FitScene, Refused as FitRefused}

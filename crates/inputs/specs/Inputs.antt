@@ -15,7 +15,7 @@ use Rattle.laws.specs.Tally.{Tally, yes, Gives}
 use Rattle.solid.specs.Grid.{ranksOf, gridOf}
 use Rattle.falls.specs.declared.Scene.{Scene}
 use Rattle.falls.specs.Scene.{probeOf, Ready}
-use Rattle.walk.specs.Walk.{refusalTally}
+use Rattle.refusals.specs.Refusals.{refusalTally}
 use Rattle.inputs.specs.declared.Begin.{Begin}
 use Rattle.inputs.specs.declared.Begin.the-variants.{Asked, Handed}
 use Rattle.inputs.specs.declared.Fit.{Fit}

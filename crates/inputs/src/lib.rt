@@ -97,10 +97,10 @@ fn judge_places(begin: Begin, solid: Solid, bytes: &[u8], frame: u32, reach: u32
                 reach: reach,
             })
         } else {
-            Fit::Refused(walk::refusal(4, q, 0, 0))
+            Fit::Refused(refusals::refusal(4, q, 0, 0))
         }
     } else {
-        Fit::Refused(walk::refusal(4, p, 0, 0))
+        Fit::Refused(refusals::refusal(4, p, 0, 0))
     }
 }
 
@@ -113,12 +113,12 @@ pub fn judge(begin: Begin, solid: Solid, bytes: &[u8], frame: i32, reach: i32) -
             if solid::is_permitted(solid, bytes) {
                 judge_places(begin, solid, bytes, frame as u32, reach as u32)
             } else {
-                Fit::Refused(walk::refusal(3, origin, 0, 0))
+                Fit::Refused(refusals::refusal(3, origin, 0, 0))
             }
         } else {
-            Fit::Refused(walk::refusal(2, origin, 0, 0))
+            Fit::Refused(refusals::refusal(2, origin, 0, 0))
         }
     } else {
-        Fit::Refused(walk::refusal(1, origin, 0, 0))
+        Fit::Refused(refusals::refusal(1, origin, 0, 0))
     }
 }

@@ -26,7 +26,7 @@ fn as_pick(outcome: Outcome) -> Pick
         Outcome::Ended(r) => r,
         Outcome::Ready(d) => {
             let p = d.start;
-            Pick::Refused(walk::refusal(0, p, 0, 0))
+            Pick::Refused(refusals::refusal(0, p, 0, 0))
         }
     }
 }
@@ -84,7 +84,7 @@ fn as_check(outcome: Outcome) -> Check
             Pick::Refused(r) => Check::Refused(r),
             Pick::Accepted(a) => {
                 let q = a.apex;
-                Check::Refused(walk::refusal(0, q, 0, 0))
+                Check::Refused(refusals::refusal(0, q, 0, 0))
             }
         },
     }

@@ -13,7 +13,7 @@ use Rattle.laws.specs.Tally.{Gives, then-yes, then-no, asked-yes, asked-no, ens
 use Rattle.falls.specs.declared.Falls.{Falls}
 use Rattle.falls.specs.declared.Falls.the-variants.{Fell, Kept, Stopped}
 use Rattle.falls.specs.Falls.{Fallen, fallsTally, fallsLooks}
-use Rattle.walk.specs.Walk.{refusalOf}
+use Rattle.refusals.specs.Refusals.{refusalOf}
 use Rattle.facing.specs.Facing.{CornerAt}
 use Rattle.start.specs.Start.{axisRefusal, levelsJudged, opposite, Opposed, LevelsJudged, MinusAsked, OppositeAsked, AxisJudged}
 use Rattle.start.specs.declared.AxisAnswer.{AxisAnswer}

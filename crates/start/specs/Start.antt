@@ -12,7 +12,7 @@ use Rattle.rules.specs.Walk.{Stop, stop, ensure, asked, Axis, axis0, axis1, axi
 use Rattle.falls.specs.declared.Falls.{Falls}
 use Rattle.laws.specs.Tally.{Tally, yes, Gives, mostLooks}
 use Rattle.falls.specs.Falls.{fallsTally, fallsLooks}
-use Rattle.walk.specs.Walk.{refusalOf, refusalTally}
+use Rattle.refusals.specs.Refusals.{refusalOf, refusalTally}
 use Rattle.facing.specs.declared.Cleared.{Cleared}
 use Rattle.facing.specs.declared.Cleared.the-variants.{Clear, Refused as ClearRefused}
 use Rattle.start.specs.declared.AxisAnswer.{AxisAnswer}

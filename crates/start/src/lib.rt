@@ -38,7 +38,7 @@ fn refuse_axis(scene: Scene, e: Vector, looks: u32) -> Refused
     ensures { λ r. ⌜ Opposed (scene .apex) (scene .signs) e looks r ⌝ }
 {
     let place = facing::corner(scene, e);
-    walk::refusal(7, place, 0, looks)
+    refusals::refusal(7, place, 0, looks)
 }
 
 // Whether minus the unit vector of a line's axis falls.
@@ -62,7 +62,7 @@ fn ask_opposite(scene: Scene, bytes: &[u8], line: Line, looks: u32) -> AxisAnswe
             AxisAnswer::Refused(seven)
         }
         Falls::Kept(n) => AxisAnswer::Asked(true, n),
-        Falls::Stopped(p, n) => AxisAnswer::Refused(walk::refusal(8, p, 0, n)),
+        Falls::Stopped(p, n) => AxisAnswer::Refused(refusals::refusal(8, p, 0, n)),
     }
 }
 
@@ -74,7 +74,7 @@ fn judge_axis(scene: Scene, bytes: &[u8], line: Line, asked: Falls) -> AxisAnswe
     match asked {
         Falls::Fell(n) => AxisAnswer::Asked(false, n),
         Falls::Kept(n) => ask_opposite(scene, bytes, line, n),
-        Falls::Stopped(p, n) => AxisAnswer::Refused(walk::refusal(8, p, 0, n)),
+        Falls::Stopped(p, n) => AxisAnswer::Refused(refusals::refusal(8, p, 0, n)),
     }
 }
 

@@ -34,7 +34,8 @@ use Rattle.round.specs.declared.Round.the-variants.{Asked as IsAsked, Stopped}
 use Rattle.round.specs.Corners.{cornerAt, cornersIn, triangleIn, stepped, Ranked, Small, small, stepped-whole, stepped-ranked, stepped-triangle}
 use Rattle.round.specs.Round.{roundTally, roundLooks, taking, RoundAsked}
 use Rattle.walk.specs.declared.Walked.the-variants.{Ended, Refused as IsRefused}
-use Rattle.walk.specs.Walk.{refusalOf, Units, allowed, Walks, Walking}
+use Rattle.refusals.specs.Refusals.{refusalOf}
+use Rattle.walk.specs.Walk.{Units, allowed, Walks, Walking}
 
 module _ (c : Probe) (ps : List Pair) (m : Triangle) (n k : ℕ) where
   walk-stopped : (left : ℕ) {p : Vector} {j : ℕ} → Gives k (round c ps m) (no p j) → Gives k (walk c ps left n m) (no (stop 8 p n) j)

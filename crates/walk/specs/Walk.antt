@@ -12,18 +12,12 @@ use Rattle.rules.specs.Asked.{Asked}
 use Rattle.rules.specs.Walk.{Stop, units, pairs, remaining, Probe, laid, walk, rounds}
 use Rattle.laws.specs.Answers.{stopOf}
 use Rattle.laws.specs.Tally.{Tally, yes, no, Gives, mostLooks}
+use Rattle.refusals.specs.Refusals.{refusalTally}
 use Rattle.choice.specs.Sound.{Sound}
 use Rattle.round.specs.Corners.{triangleIn, Ranked}
 use Rattle.round.specs.Round.{taking}
 use Rattle.walk.specs.declared.Walked.{Walked}
 use Rattle.walk.specs.declared.Walked.the-variants.{Ended, Refused as IsRefused}
-
-abbrev pub refusalOf : ℕ → Vector → ℕ → ℕ → Refused
-refusalOf number place steps looks = record { number = number; place = place; steps = steps; looks = looks }
-
--- a refusal, with the looks so far
-abbrev pub refusalTally : {A : Type 0} → Refused → Tally Stop A
-refusalTally r = no (stopOf r) (r .looks)
 
 -- the walk ends with the triangle laid in: in the frame with the signs s it is the definition's
 abbrev pub walkTally : Vector → Walked → Tally Stop (Triangle × ℕ)

@@ -6,7 +6,7 @@ ghost use Rattle.laws.specs.Bounds.{Bounded};
 ghost use Rattle.laws.specs.Frames.{Signs};
 ghost use Rattle.laws.specs.Tally.{Countable};
 ghost use Rattle.falls.specs.Scene.{probeOf, Ready};
-ghost use Rattle.walk.specs.Walk.{refusalOf, Units, walkQuestions, allowed, Walks};
+ghost use Rattle.walk.specs.Walk.{Units, walkQuestions, allowed, Walks};
 use falls::Scene;
 use round::Round;
 use rules::Levels;
@@ -32,17 +32,6 @@ fn unit_vectors(s: Vector, ranks: Vector) -> [i32; 12]
     let b = y * ranks.y;
     let c = z * ranks.z;
     [x, 0, 0, a, 0, y, 0, b, 0, 0, z, c]
-}
-
-pub fn refusal(number: u32, place: Vector, steps: u32, looks: u32) -> Refused
-    ensures { λ r. ⌜ r ≡ refusalOf number place steps looks ⌝ }
-{
-    Refused {
-        number: number,
-        place: place,
-        steps: steps,
-        looks: looks,
-    }
 }
 
 fn count_remaining(level: Levels) -> u32
@@ -78,7 +67,7 @@ pub fn walk_on(scene: Scene, bytes: &[u8], level: Levels, looks: u32) -> Walked
         let r = round::ask_round(scene, bytes, level, &m, n);
         match r {
             Round::Stopped(p, k) => {
-                break Walked::Refused(refusal(8, p, steps, k));
+                break Walked::Refused(refusals::refusal(8, p, steps, k));
             }
             Round::Asked(best, k) => {
                 let pair = best.pair;
@@ -86,7 +75,7 @@ pub fn walk_on(scene: Scene, bytes: &[u8], level: Levels, looks: u32) -> Walked
                     break Walked::Ended(round::triangle_of(&m), steps, k);
                 }
                 if steps == limit {
-                    break Walked::Refused(refusal(9, q, steps, k));
+                    break Walked::Refused(refusals::refusal(9, q, steps, k));
                 }
                 round::step_by(&mut m, pair);
                 steps = steps + 1;

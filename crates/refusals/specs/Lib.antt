@@ -1,0 +1,2 @@
+-- A refusal, and what it tells.
+pub mod Refusals
