@@ -12,7 +12,7 @@ use lib.Seq.{drop-cons}
 use Rattle.rules.specs.declared.Levels.{Levels}
 use Rattle.rules.specs.declared.Refused.{Refused}
 use Rattle.rules.specs.Asked.{Asked, _>>=_}
-use Rattle.rules.specs.Walk.{Stop, Axis, axis0, axis1, axis2, allAxes, unit, noneLevel, Probe, isLevel, axes}
+use Rattle.rules.specs.Walk.{Stop, Axis, axis0, allAxes, unit, noneLevel, Probe, isLevel, axes}
 use Rattle.laws.specs.Tally.{Tally, Gives, mostLooks, then-yes, then-no}
 use Rattle.axis.specs.Axes.{axisAt}
 use Rattle.falls.specs.declared.Falls.{Falls}

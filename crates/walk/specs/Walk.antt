@@ -7,11 +7,9 @@ use lib.ListN.{length}
 use Rattle.rules.specs.declared.Vector.{Vector}
 use Rattle.rules.specs.declared.Levels.{Levels}
 use Rattle.rules.specs.declared.Triangle.{Triangle}
-use Rattle.rules.specs.declared.Refused.{Refused}
 use Rattle.rules.specs.Asked.{Asked}
 use Rattle.rules.specs.Walk.{Stop, units, pairs, remaining, Probe, laid, walk, rounds}
-use Rattle.laws.specs.Answers.{stopOf}
-use Rattle.laws.specs.Tally.{Tally, yes, no, Gives, mostLooks}
+use Rattle.laws.specs.Tally.{Tally, yes, Gives, mostLooks}
 use Rattle.refusals.specs.Refusals.{refusalTally}
 use Rattle.choice.specs.Sound.{Sound}
 use Rattle.round.specs.Corners.{triangleIn, Ranked}

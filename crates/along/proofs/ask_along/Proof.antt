@@ -1,5 +1,4 @@
 -- `along::ask_along` meets its contract. The loop's invariant is that of `falls::ask_falls`, for the point that is the apex with another part along the line's axis.
-use mathlib.Core.Path.{_∙_}
 use Prim.Native.Nat.{_-_}
 use native.Mathlib.Omega.{arith}
 use mir.Syntax.{w32}

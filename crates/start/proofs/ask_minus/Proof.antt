@@ -1,8 +1,7 @@
 -- `start::ask_minus` meets its contract: the line's opposite has minus the unit vector, laid in.
 use mathlib.Core.Path.{ap, _∙_}
 use native.Mathlib.Omega.{arith}
-use Rattle.along.specs.declared.Line.{Line}
-use Rattle.along.specs.Lines.{wayAlong, Along}
+use Rattle.along.specs.Lines.{wayAlong}
 use Rattle.along.specs.Facts.{line-along, turned-line, line-fits, way-back}
 use Rattle.start.proofs.Axes.{minus-asked}
 use Rattle.start.proofs.ask_minus.Statement.{statement}
