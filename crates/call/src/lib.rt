@@ -115,7 +115,7 @@ fn numbers_of(solid: Solid) -> Vector
     }
 }
 
-// A stack has none.
+// A wedge's h; a stack has none.
 fn height_of(solid: Solid) -> i32
     ensures { λ r. ⌜ r ≡ heightOf solid ⌝ }
 {
@@ -163,7 +163,7 @@ fn answer(call: Call, solid: Solid, bytes: &[u8], frame: i32, reach: i32) -> Out
     }
 }
 
-// One function for all four: of two each part is compiled as a function of its own, and a pick takes 65 ns longer. The solid is read number by number and made anew: copied whole it is loaded sixteen bytes at a time, which waits for the four stores that wrote them, and again wherever its kind is asked.
+// One function for all four: of two each part is compiled as a function of its own, and a pick takes 65 ns longer. The solid is made anew of its numbers, each read as it was written: copied whole it is read in larger pieces, which wait.
 pub fn make_call(call: Call, solid: Solid, bytes: &[u8], frame: i32, reach: i32) -> Outcome
     ensures { λ r. ⌜ CallMade call solid (now (bytes .entry)) frame reach r ⌝ }
 {
