@@ -24,9 +24,10 @@ use Rattle.rules.specs.Solids.{permitted, look}
 use Rattle.rules.specs.Walk.{Stop, stop, powers, Axis, axis0, axis1, axis2, unit, vectorOf, level, remaining, unlessLevel, levelled, normal, Probe, Found, laid, found}
 use Rattle.rules.specs.Pick.{pick, acceptedAnswer, answer, pickOf}
 use Rattle.rules.specs.TwoCalls.{answerFrom}
+use Rattle.rules.specs.Lean.{isZero, levelsOf}
 use Rattle.laws.specs.Parts.{NonNegative, part, part-of, parts-by, scale-one}
 use Rattle.laws.specs.Triples.{detOf, crosses, combined, expand}
-use Rattle.laws.specs.Levels.{above-zero, isZero, levelsOf, levels-of, levels-eq, part-levelled}
+use Rattle.laws.specs.Levels.{above-zero, levels-of, levels-eq, part-levelled}
 use Rattle.laws.specs.Flat.{Flat, levelled-dot}
 use Rattle.laws.specs.Generators.{Combines, generators, Products, face-generated}
 use Rattle.laws.specs.Tame.{tame-normal}

@@ -13,7 +13,8 @@ use Rattle.integers.specs.Sizes.{product-size}
 use Rattle.rules.specs.declared.Vector.{Vector}
 use Rattle.rules.specs.Vectors.{_⊕_, _⊖_, minus, scale, dot, lay, size}
 use Rattle.rules.specs.Walk.{sign, signs, Axis}
-use Rattle.laws.specs.Levels.{isZero, not-zero}
+use Rattle.rules.specs.Lean.{isZero}
+use Rattle.laws.specs.Levels.{not-zero}
 use Rattle.laws.specs.Parts.{Parts, part, part-of, part-minus, part-lay, part-difference, vector-by-parts, vector-eq, NonNegative, Positive, of3}
 
 abbrev pub IsSign : ℤ → Type 0

@@ -15,6 +15,7 @@ use Rattle.rules.specs.declared.Levels.{Levels}
 use Rattle.rules.specs.declared.Pair.{Pair}
 use Rattle.rules.specs.declared.Pair.the-variants.{P01, P02, P10, P12, P20, P21}
 use Rattle.rules.specs.Walk.{Axis, axis0, axis1, axis2, pairs, from, to, levels, level, allLevel, keep, only, remaining, takesPart, unlessLevel, levelled}
+use Rattle.rules.specs.Lean.{isZero, levelsOf}
 use Rattle.laws.specs.Parts.{part}
 
 -- ---- how many axes remain, and how many pairs take part: tests over all flags
@@ -91,11 +92,6 @@ two-remain v x t = go (takesPart v x) t (every-levels (hasTwo x) (two-each x) v)
     go false t k = absurd t
 
 -- ---- the level axes of a normal: those along which its part is 0
-abbrev pub isZero : ℤ → Bool
-isZero (pos zero) = true
-isZero (pos (suc k)) = false
-isZero (negsuc k) = false
-
 pub is-zero : (z : ℤ) → isZero z ≡ true → z ≡ pos 0
 is-zero (pos zero) e = refl
 is-zero (pos (suc k)) e = absurd (false≢true e)
@@ -110,9 +106,6 @@ pub above-zero : (z : ℤ) → pos 1 ≤ℤ z → isZero z ≡ false
 above-zero (pos zero) h = absurd (omega (arith, parts, h))
 above-zero (pos (suc k)) h = refl
 above-zero (negsuc k) h = absurd (h .le)
-
-abbrev pub levelsOf : Vector → Levels
-levelsOf n = levels (isZero (n .x)) (isZero (n .y)) (isZero (n .z))
 
 pub levels-of : (n : Vector) (k : Axis) → level (levelsOf n) k ≡ isZero (part k n)
 levels-of n axis0 = refl

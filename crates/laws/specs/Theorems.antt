@@ -32,11 +32,12 @@ use Rattle.rules.specs.Asked.{answered}
 use Rattle.rules.specs.Walk.{signs, powers, Axis, axis0, axis1, axis2, unit, units, vectorOf, pairs, second, way, step, levels, level, keep, only, remaining, takesPart, determinant, inside, choice, Probe, corner, laid, falling, round, walk}
 use Rattle.rules.specs.Pick.{isInside, probe, pick, pickOf}
 use Rattle.rules.specs.Touch.{nearer, touchOf}
+use Rattle.rules.specs.Lean.{isZero, levelsOf}
 use Rattle.laws.specs.Tests.{In}
 use Rattle.laws.specs.Parts.{NonNegative, Positive, part, parts-by}
 use Rattle.laws.specs.Triples.{All, all-by, detOf, step-det}
 use Rattle.laws.specs.Levels as Levels
-use Rattle.laws.specs.Levels.{isZero, levelsOf, levels-of, levels-eq}
+use Rattle.laws.specs.Levels.{levels-of, levels-eq}
 use Rattle.laws.specs.Flat.{product}
 use Rattle.laws.specs.Generators.{Combines, generators, two-sides}
 use Rattle.laws.specs.Tame.{units-tame}

@@ -28,9 +28,9 @@ use Rattle.rules.specs.Asked.{answered}
 use Rattle.rules.specs.Walk.{Stop, stop, signs, powers, Axis, unit, vectorOf, pairs, way, level, allLevel, only, remaining, takesPart, Probe, Found, laid, found}
 use Rattle.rules.specs.Pick.{probe, refusedAnswer, pickOf}
 use Rattle.rules.specs.TwoCalls.{checkOf, handed, walkOn, walkOf, inARow}
+use Rattle.rules.specs.Lean.{levelsOf}
 use Rattle.laws.specs.Parts.{NonNegative}
 use Rattle.laws.specs.Triples.{detOf}
-use Rattle.laws.specs.Levels.{levelsOf}
 use Rattle.laws.specs.Flat.{product}
 use Rattle.laws.specs.Generators.{Combines, generators}
 use Rattle.laws.specs.Frames.{Signs, signs-are}

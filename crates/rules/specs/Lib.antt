@@ -1,4 +1,4 @@
--- Documents 01 and 02 as definitions, in document 01's order; `Cases` and `Comments` have the worked cases, proved.
+-- Documents 01 and 02 as definitions, in document 01's order, and beside them `Lean` and `Firm`, which no document asks for; `Cases` and `Comments` have the worked cases, proved.
 pub mod Vectors
 pub mod Solids
 pub mod Asked
@@ -6,6 +6,8 @@ pub mod Walk
 pub mod Pick
 pub mod TwoCalls
 pub mod Touch
+pub mod Lean
+pub mod Firm
 pub mod Decimals
 pub mod P4
 pub mod Display

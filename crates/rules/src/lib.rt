@@ -108,6 +108,32 @@ pub enum Touch {
     Refused(Refused),
 }
 
+// ---- how far an accepted normal may lean, and how firm its footing is
+
+// The squared sine of the lean is below part / whole.
+pub struct Bound {
+    pub part: u64,
+    pub whole: u64,
+}
+
+// A refusal has its number.
+pub enum Lean {
+    Known(Bound),
+    Unknown(u32),
+}
+
+// Firm to the power, 0 if not at all.
+pub struct Footing {
+    pub power: u32,
+    pub looks: u32,
+    pub bound: Bound,
+}
+
+pub enum Firm {
+    Stands(Footing),
+    Refused(Refused),
+}
+
 // ---- the display normal's answer
 
 // Three components for the shader.

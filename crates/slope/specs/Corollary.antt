@@ -19,9 +19,10 @@ use Rattle.rules.specs.declared.Pick.the-variants.{Accepted, Refused}
 use Rattle.rules.specs.Vectors.{dot, size}
 use Rattle.rules.specs.Solids.{between}
 use Rattle.rules.specs.Walk.{Axis, axis0, axis1, axis2, first, second, way, levels, keep, only, remaining}
+use Rattle.rules.specs.Lean.{isZero, levelsOf}
 use Rattle.laws.specs.Parts.{part, part-of, parts-by, dot-difference}
 use Rattle.laws.specs.Triples.{All, all-first, all-second}
-use Rattle.laws.specs.Levels.{above-zero, isZero, levelsOf}
+use Rattle.laws.specs.Levels.{above-zero}
 use Rattle.laws.specs.Generators.{Combines, generators, two-sides}
 use Rattle.laws.specs.Frames.{signs-are, lay-lay, lay-part-zero, same-frame}
 use Rattle.range.specs.Ranges.{between-yes}

@@ -22,9 +22,9 @@ use Rattle.rules.specs.Vectors.{vector, _⊕_, scale, dot, lay, size, origin}
 use Rattle.rules.specs.Solids.{between, permitted, box, inBox, filled, look}
 use Rattle.rules.specs.Walk.{signs, powers, Probe, Axis, unit, vectorOf, level, remaining}
 use Rattle.rules.specs.Pick.{probe, pickOf, WedgePromise, StackPromise}
+use Rattle.rules.specs.Lean.{levelsOf}
 use Rattle.laws.specs.Tests.{Each}
 use Rattle.laws.specs.Parts.{NonNegative}
-use Rattle.laws.specs.Levels.{levelsOf}
 use Rattle.laws.specs.Generators.{Combines, generators}
 use Rattle.laws.specs.Next.{NextLook}
 use Rattle.laws.specs.Answers.{stopOf}

@@ -19,10 +19,10 @@ use Rattle.rules.specs.declared.Choice.{Choice}
 use Rattle.rules.specs.declared.Choice.the-variants.{Nothing, Chosen}
 use Rattle.rules.specs.Vectors.{_⊖_, dot, lay, size}
 use Rattle.rules.specs.Walk.{Axis, axis0, axis1, axis2, vectorOf, withVector, pairs, from, first, second, way, step, units, choice, only, remaining, takesPart}
+use Rattle.rules.specs.Lean.{levelsOf}
 use Rattle.laws.specs.Only.{each-both-of, only-holds, only-each, only-none, each-member, taking-in}
 use Rattle.laws.specs.Parts.{dot-difference}
 use Rattle.laws.specs.Triples.{All, all-first, all-second, all-with, detOf, step-det}
-use Rattle.laws.specs.Levels.{levelsOf}
 use Rattle.laws.specs.Flat.{Flat, raised, step-flat}
 use Rattle.laws.specs.Choosing.{Chose, choice-is, choice-exists}
 

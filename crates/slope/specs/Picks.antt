@@ -19,9 +19,10 @@ use Rattle.rules.specs.Vectors.{minus, dot, cross, det, lay, size}
 use Rattle.rules.specs.Solids.{between, permitted, look}
 use Rattle.rules.specs.Walk.{Stop, stop, powers, Axis, axis0, axis1, axis2, unit, units, pairs, level, allLevel, only, remaining, takesPart, levelled, normal, Probe, atPowers, axes, rounds, found}
 use Rattle.rules.specs.Pick.{isInside, pick}
+use Rattle.rules.specs.Lean.{isZero, levelsOf}
 use Rattle.laws.specs.Tests.{is-true, is-false, is-not, not-less}
 use Rattle.laws.specs.Parts.{part, part-of, part-origin, vector-by-parts, dot-minus, dot-unit}
-use Rattle.laws.specs.Levels.{remains, remaining-count, at-most-3, pairs-taking, isZero, is-zero, not-zero, levelsOf, levels-of, levels-eq, all-level, lowest}
+use Rattle.laws.specs.Levels.{remains, remaining-count, at-most-3, pairs-taking, is-zero, not-zero, levels-of, levels-eq, all-level, lowest}
 use Rattle.laws.specs.Flat.{units-flat, raise, raised, Lies}
 use Rattle.laws.specs.Frames.{Signs, signs-are, lay-lay, lay-scale, dot-apex, lay-size, sum-size, lay-part-zero}
 use Rattle.laws.specs.Says.{Says, Few, says-weaker}

@@ -14,8 +14,9 @@ use Rattle.rules.specs.Vectors.{dot, lay, size}
 use Rattle.rules.specs.Solids.{permitted, look}
 use Rattle.rules.specs.Walk.{signs, Axis, unit, units, vectorOf, level, normal, levelled, Probe, Found, laid, found}
 use Rattle.rules.specs.Pick.{pick, pickOf}
+use Rattle.rules.specs.Lean.{levelsOf}
 use Rattle.laws.specs.Triples.{detOf}
-use Rattle.laws.specs.Levels.{levelsOf, at-most-3, some-remain}
+use Rattle.laws.specs.Levels.{at-most-3, some-remain}
 use Rattle.laws.specs.Flat.{Flat, raised}
 use Rattle.laws.specs.Generators.{Combines, generators, Products, generators-in}
 use Rattle.laws.specs.Frames.{signs-are}

@@ -25,8 +25,9 @@ use Rattle.rules.specs.Solids.{permitted, look}
 use Rattle.rules.specs.Walk.{Stop, stop, Axis, axis0, axis1, axis2, unit, units, pairs, level, noneLevel, only, remaining, takesPart, levelled, normal, Probe, Found, laid, corner, allCorners, rounds, found}
 use Rattle.rules.specs.Pick.{isInside}
 use Rattle.rules.specs.Touch.{touch, touchOf}
+use Rattle.rules.specs.Lean.{isZero, levelsOf}
 use Rattle.laws.specs.Parts.{NonNegative, Positive, part, parts-by, dot-sum, dot-minus, dot-unit}
-use Rattle.laws.specs.Levels.{isZero, is-zero, above-zero, levelsOf, levels-of, levels-eq}
+use Rattle.laws.specs.Levels.{is-zero, above-zero, levels-of, levels-eq}
 use Rattle.laws.specs.Flat.{raised}
 use Rattle.laws.specs.Generators.{generators-in}
 use Rattle.laws.specs.Frames.{Signs, signs-are, lay-lay, lay-dot, lay-part-high, same-frame}

@@ -21,9 +21,9 @@ use Rattle.rules.specs.Vectors.{vector, dot, size}
 use Rattle.rules.specs.Solids.{box, inBox}
 use Rattle.rules.specs.Walk.{Axis, unit, laid, Probe, corner}
 use Rattle.rules.specs.Touch.{nearer, touchOf, WedgeTouchPromise, StackTouchPromise}
+use Rattle.rules.specs.Lean.{levelsOf}
 use Rattle.laws.specs.Tests.{Each}
 use Rattle.laws.specs.Parts.{part}
-use Rattle.laws.specs.Levels.{levelsOf}
 use Rattle.laws.specs.Generators.{Combines, generators}
 use Rattle.laws.specs.Next.{earlier}
 use Rattle.laws.specs.Corners.{nth}
