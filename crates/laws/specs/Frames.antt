@@ -95,7 +95,7 @@ pub lay-size : (s a : Vector) → Signs s → size (lay s a) ≡ size a
 unfolding size lay
 lay-size s a g = ap₂ _+_ (ap₂ _+_ (sign-size _ _ (g .ofX)) (sign-size _ _ (g .ofY))) (sign-size _ _ (g .ofZ))
 
-natural : (z : ℤ) → pos 0 ≤ℤ z → z ≡ pos (natAbs z)
+pub natural : (z : ℤ) → pos 0 ≤ℤ z → z ≡ pos (natAbs z)
 natural (pos k) h = refl
 natural (negsuc k) h = absurd (h .le)
 
