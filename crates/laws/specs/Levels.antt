@@ -23,10 +23,10 @@ every : (f : Bool → Bool) → T (f true && f false) → (b : Bool) → T (f b)
 every f h true = and-yes (f true) (f false) h .0
 every f h false = and-yes (f true) (f false) h .1
 
-eachWay : (Bool → Bool) → Bool
+unfoldable pub eachWay : (Bool → Bool) → Bool
 eachWay f = f true && f false
 
-every-levels : (test : Levels → Bool) → T (eachWay (λ a. eachWay (λ b. eachWay (λ c. test (levels a b c))))) → (v : Levels) → T (test v)
+pub every-levels : (test : Levels → Bool) → T (eachWay (λ a. eachWay (λ b. eachWay (λ c. test (levels a b c))))) → (v : Levels) → T (test v)
 unfolding eachWay
 every-levels test h v = every (λ c. test (levels (v .x) (v .y) c)) (every (λ b. eachWay (λ c. test (levels (v .x) b c))) (every (λ a. eachWay (λ b. eachWay (λ c. test (levels a b c)))) h (v .x)) (v .y)) (v .z)
 

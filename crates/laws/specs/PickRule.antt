@@ -39,6 +39,39 @@ module _ {c : Probe} {R : ℕ} {v : Levels} {Begun : List Vector → Type 0} {En
 pub looked-inside : (c : Probe) {G : Stop → List Vector → Type 0} (a : Vector) → T (isInside (c .look a)) → Says (λ b t. (c .look a ≡ As b) × (t ≡ a ∷ [])) G (asked 0 (lookAt (c .look) a))
 looked-inside c a i = says-asked 0 _ (λ r t h. absurd (not-outside (c .look) a i (h .1))) (look-says c a)
 
+-- ---- the places p and q, of a walk from the apex q of c that started at p
+module _ (c : Probe) (p : Vector) {Stops : Stop → List Vector → Type 0} where
+  pub placing-says : (T (not (isInside (c .look p))) → Stops (stop 4 p 0) []) → (T (not (isInside (c .look (c .apex)))) → Stops (stop 4 (c .apex) 0) [])
+      → Says (λ _ t. T (isInside (c .look p)) × T (isInside (c .look (c .apex))) × (t ≡ [])) Stops (placing c p)
+  unfolding placing
+  placing-says start apex = says-ensure _ _ _ start (λ inside. says-test _ _ apex (λ above. (inside, above, refl)))
+
+  -- both were judged inside
+  pub facing-says : T (isInside (c .look p)) → T (isInside (c .look (c .apex))) → (c .look p ≡ Empty → Stops (stop 5 p 0) (p ∷ [])) → (c .look p ≡ Filled → c .look (c .apex) ≡ Filled → Stops (stop 6 (c .apex) 0) (p ∷ c .apex ∷ []))
+      → Says (λ _ t. (c .look p ≡ Filled) × (c .look (c .apex) ≡ Empty) × (t ≡ p ∷ c .apex ∷ [])) Stops (facing c p)
+  unfolding facing
+  facing-says start apex five six =
+      says-bind {G = Stops} _ _ (looked-inside c {G = Stops} p start) (λ r t k. k) (λ f t a. rw (a .1)
+      (says-ensure f _ _ (not-filled f (a .0)) (λ filled.
+      says-bind {G = λ r s. Stops r (p ∷ s)} _ _ (looked-inside c {G = λ r s. Stops r (p ∷ s)} (c .apex) apex) (λ r s k. k) (λ g s b. rw (b .1)
+      (says-test (not g) _ (filled-apex f g (a .0) filled (b .0)) (λ n. (is-filled f (a .0) filled, is-empty g (b .0) n, refl)))))))
+    where
+      is-filled : (b : Bool) → c .look p ≡ As b → T b → c .look p ≡ Filled
+      is-filled true e t = e
+      is-filled false e t = absurd t
+
+      is-empty : (b : Bool) → c .look (c .apex) ≡ As b → T (not b) → c .look (c .apex) ≡ Empty
+      is-empty true e t = absurd t
+      is-empty false e t = e
+
+      not-filled : (b : Bool) → c .look p ≡ As b → T (not b) → Stops (stop 5 p 0) (p ∷ [])
+      not-filled true e t = absurd t
+      not-filled false e t = five e
+
+      filled-apex : (f g : Bool) → c .look p ≡ As f → T f → c .look (c .apex) ≡ As g → T (not (not g)) → Stops (stop 6 (c .apex) 0) (p ∷ c .apex ∷ [])
+      filled-apex f true e t d n = six (is-filled f e t) d
+      filled-apex f false e t d n = absurd n
+
 -- ---- the inputs, of a walk from the apex of c that started at p
 module _ (ok : Bool) (c : Probe) (p : Vector) (frame reach : ℤ) where
   -- none of the refusals 1 to 4
@@ -58,13 +91,13 @@ module _ (ok : Bool) (c : Probe) (p : Vector) (frame reach : ℤ) where
     pub fourApex : T (not (isInside (c .look (c .apex)))) → Stops (stop 4 (c .apex) 0) []
 
   pub judging-says : {Stops : Stop → List Vector → Type 0} → JudgingRule Stops → Says (λ _ t. Passed × (t ≡ [])) Stops (judging ok c p frame reach)
-  unfolding judging placing
+  unfolding judging
   judging-says rule =
       says-ensure _ _ _ (rule .one) (λ reached.
       says-ensure _ _ _ (rule .two) (λ framed.
       says-ensure _ _ _ (rule .three) (λ permitted.
-      says-ensure _ _ _ (rule .fourStart) (λ start.
-      says-test _ _ (rule .fourApex) (λ apex. (record { permittedReach = reached; permittedFrame = framed; permittedSolid = permitted; startInside = start; apexInside = apex }, refl))))))
+      says-weaker _ (λ _ t h. (record { permittedReach = reached; permittedFrame = framed; permittedSolid = permitted; startInside = h .0; apexInside = h .1 }, h .2)) (λ r t k. k)
+      (placing-says c p (rule .fourStart) (rule .fourApex)))))
 
 -- ---- the pick
 module _ (ok : Bool) (look : Vector → Look) (p : Vector) (frame reach : ℤ) where
@@ -100,34 +133,15 @@ module _ (ok : Bool) (look : Vector → Look) (p : Vector) (frame reach : ℤ) w
     pub ended : Faced → (v : Levels) → EndRule (atPowers ls (probe look p frame reach)) (natAbs reach) v (Level v) (Ended v) Finds Stops
 
   -- whatever the powers are
-  facing-says : {Stops : Stop → List Vector → Type 0} → InputRule Stops → (ls : List ℕ) → Passed ok c p frame reach → Says (λ _ t. Faced × (t ≡ p ∷ q ∷ [])) Stops (facing (atPowers ls c) p)
-  unfolding facing
-  facing-says {Stops} rule ls h =
-      says-bind {G = Stops} _ _ (looked-inside c {G = Stops} p (h .startInside)) (λ r t k. k) (λ f t a. rw (a .1)
-      (says-ensure f _ _ (not-filled f (a .0)) (λ filled.
-      says-bind {G = λ r s. Stops r (p ∷ s)} _ _ (looked-inside c {G = λ r s. Stops r (p ∷ s)} q (h .apexInside)) (λ r s k. k) (λ g s b. rw (b .1)
-      (says-test (not g) _ (filled-apex f g (a .0) filled (b .0)) (λ n. (record { passed = h; startFilled = is-filled f (a .0) filled; apexEmpty = is-empty g (b .0) n }, refl)))))))
-    where
-      is-filled : (b : Bool) → look p ≡ As b → T b → look p ≡ Filled
-      is-filled true e t = e
-      is-filled false e t = absurd t
-
-      is-empty : (b : Bool) → look q ≡ As b → T (not b) → look q ≡ Empty
-      is-empty true e t = absurd t
-      is-empty false e t = e
-
-      not-filled : (b : Bool) → look p ≡ As b → T (not b) → Stops (stop 5 p 0) (p ∷ [])
-      not-filled true e t = absurd t
-      not-filled false e t = rule .five h e
-
-      filled-apex : (f g : Bool) → look p ≡ As f → T f → look q ≡ As g → T (not (not g)) → Stops (stop 6 q 0) (p ∷ q ∷ [])
-      filled-apex f true e t d n = rule .six h (is-filled f e t) d
-      filled-apex f false e t d n = absurd n
+  faced-says : {Stops : Stop → List Vector → Type 0} → InputRule Stops → (ls : List ℕ) → Passed ok c p frame reach → Says (λ _ t. Faced × (t ≡ p ∷ q ∷ [])) Stops (facing (atPowers ls c) p)
+  faced-says rule ls h =
+      says-weaker _ (λ _ t k. (record { passed = h; startFilled = k .0; apexEmpty = k .1 }, k .2)) (λ r t k. k)
+      (facing-says (atPowers ls c) p (h .startInside) (h .apexInside) (rule .five h) (rule .six h))
 
   module _ {Level : Levels → List Vector → Type 0} {Stops : Stop → List Vector → Type 0} where
     start-by-rule : (ls : List ℕ) (begin : Asked Stop Levels) → StartRule begin Level Stops → Passed ok c p frame reach → Says (λ v t. Faced × Level v t) Stops (facing (atPowers ls c) p >> begin)
     start-by-rule ls begin rule h =
-        says-bind {G = Stops} _ _ (facing-says (rule .inputs) ls h) (λ r t k. k) (λ _ t k. rw (k .1) (says-weaker _ (λ v s x. (k .0, x)) (λ r s x. x) (rule .beginSays (k .0))))
+        says-bind {G = Stops} _ _ (faced-says (rule .inputs) ls h) (λ r t k. k) (λ _ t k. rw (k .1) (says-weaker _ (λ v s x. (k .0, x)) (λ r s x. x) (rule .beginSays (k .0))))
 
     pub check-by-rule : StartRule (axes (probe look p frame reach)) Level Stops → Says (λ v t. Faced × Level v t) Stops (check ok look p frame reach)
     unfolding check start

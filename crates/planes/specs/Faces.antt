@@ -47,7 +47,7 @@ module _ {c : Probe} {R : ℕ} {v : Levels} {f : Found} (h : WalkFound c R v f) 
   abbrev m : Triangle
   m = h .at .0
 
-  found-vector : (k : Axis) → vectorOf (f .triangle) k ≡ lay s (vectorOf m k)
+  pub found-vector : (k : Axis) → vectorOf (f .triangle) k ≡ lay (c .signs) (vectorOf (h .at .0) k)
   unfolding found
   found-vector k = ap (λ (f : Found). vectorOf (f .triangle) k) (h .is) ∙ laid-of s m k
 

@@ -4,7 +4,7 @@ use mathlib.Core.Path.{_≡_}
 use mathlib.Core.List.{List}
 use Prim.Native.Nat.{ℕ, _+_, _*_, _<_, _≤_}
 use lib.Dec.{T}
-use lib.IntN.{ℤ, pos, natAbs, _-ℤ_, _*ℤ_}
+use lib.IntN.{ℤ, pos, negsuc, natAbs, _-ℤ_, _*ℤ_}
 use lib.Signed.{_≤ℤ_, _<ℤ_, ltZ}
 use Rattle.rules.specs.declared.Vector.{Vector}
 use Rattle.rules.specs.declared.Wedge.{Wedge}
@@ -73,3 +73,26 @@ pub record KnownLean : Type 0 where
   -- and what is told of the answer is that bound
   pub told : (ν : Vector) (t : ℤ) (i : Inputs) → OnPlane ν t i → (a : AcceptedPick) → pickAt i ≡ Accepted a → (r : Lean) → LeanPromise (Accepted a) (i .reach) r
       → (b : Bound) × (r ≡ Known b) × LeansBelow b ν (a .normal)
+
+-- ---- not empty: a plane far beyond the reach (w = 18, R = 8) is accepted as 1 1 1, one against the frame as 0 1 1; on others nine tenths of the bound are reached, eight with a level axis or two;
+-- and on W1 nothing leans
+pub record AcceptsOn (ν : Vector) (t : ℤ) (i : Inputs) (n : Vector) (tenths : ℕ) : Type 0 where
+  pub onPlane : OnPlane ν t i
+  pub answer : AcceptedPick
+  pub is : pickAt i ≡ Accepted answer
+  pub isNormal : answer .normal ≡ n
+  pub reached : tenths * (boundAt (lastOf i) answer .part * (squared ν * squared n)) ≤ 10 * (boundAt (lastOf i) answer .whole * squared (cross ν n))
+
+-- the plane of a line of the wedge program: a b c h, from 100 100 100 in frame 0, with the reach R
+abbrev pub AcceptsLine : ℤ → ℤ → ℤ → ℤ → ℤ → Vector → ℕ → Type 0
+AcceptsLine a b c h reach = AcceptsOn (vector a b c) h (line a b c h (at 100) (pos 0) reach)
+
+pub record LeanNotEmpty : Type 0 where
+  pub beyond : AcceptsLine (pos 5) (pos 6) (pos 7) (pos 1801) (pos 8) (at 1) 0
+  pub isBeyond : 8 < size (vector (pos 5) (pos 6) (pos 7))
+  pub against : AcceptsLine (negsuc 0) (pos 20) (pos 20) (pos 3920) (pos 4) (vector (pos 0) (pos 1) (pos 1)) 0
+  pub sharp : AcceptsLine (pos 20) (pos 31) (pos 22) (pos 7301) (pos 5) (vector (pos 1) (pos 2) (pos 2)) 9
+  pub sharpWithOneLevel : AcceptsLine (pos 18) (pos 35) (pos 17) (pos 7002) (pos 4) (vector (pos 1) (pos 1) (pos 0)) 8
+  pub sharpWithTwoLevel : AcceptsLine (pos 15) (pos 7) (pos 7) (pos 2901) (pos 3) (vector (pos 1) (pos 0) (pos 0)) 8
+  pub ownSlope : AcceptsLine (pos 1) (pos 2) (pos 5) (pos 808) (pos 8) (vector (pos 1) (pos 2) (pos 5)) 0
+  pub noLean : squared (cross (vector (pos 1) (pos 2) (pos 5)) (ownSlope .answer .normal)) ≡ 0

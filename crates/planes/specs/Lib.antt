@@ -9,3 +9,8 @@ pub mod Below
 pub mod Measured
 pub mod Upward
 pub mod LeanProved
+pub mod LeanCases
+pub mod Firm
+pub mod Standing
+pub mod Heights
+pub mod FirmProved

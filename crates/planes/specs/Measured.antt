@@ -147,7 +147,7 @@ module _ (solid : Solid) (bytes : List ℕ) (d : ReadyStart) (frame reach : ℤ)
   walked = accepted-walk (d .looks) _ (walkOn (look solid bytes) d frame reach) is .0
 
   -- with all three axes level it would have been refused with 13
-  not-all-level : T (not (allLevel (d .level)))
+  pub not-all-level : T (not (allLevel (d .level)))
   not-all-level = go (allLevel (d .level)) refl
     where
       go : (b : Bool) → allLevel (d .level) ≡ b → T (not b)

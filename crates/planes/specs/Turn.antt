@@ -332,19 +332,16 @@ spread-high {m = m} false false false f =
     let z = atom (square (way m P01)) in
     omega (arith, parts, fact (search linear) (side-high noneLevel m P01 (inl refl) tt), side-long m (f .unimodular))
 
--- ---- the normal is not zero
-pub normal-long : {s : Vector} {v : Levels} {n : Vector} {m : Triangle} → Face s v n m → pos 1 ≤ℤ square n
-normal-long {v = v} {n} {m} f = go (compared (square n) (pos 1))
+-- ---- a vector that has product 1 with another is not zero, so the normal is not
+pub long : (n a : Vector) → dot n a ≡ pos 1 → pos 1 ≤ℤ square n
+long n a is-one = go (compared (square n) (pos 1))
   where
-    k : Axis
-    k = lowest v (f .some) .0
-
-    is-one : dot n (vectorOf m k) ≡ pos 1
-    is-one = f .products k ∙ ap product (is-not (level v k) (lowest v (f .some) .1))
-
     none : (N M : ℤ) → N <ℤ pos 1 → pos 0 ≤ℤ M → pos 0 ≤ℤ (N *ℤ M -ℤ pos 1 *ℤ pos 1) → pos 1 ≤ℤ pos 0
     none N M h j r = at-most (N *ℤ M -ℤ pos 1 *ℤ pos 1 +ℤ M *ℤ (pos 1 -ℤ N -ℤ pos 1)) (r and j by rest-less h) (byring (N ∷ M ∷ []) (search sides depth 40 fits 5000) tt)
 
     go : (square n <ℤ pos 1) ⊎ (pos 1 ≤ℤ square n) → pos 1 ≤ℤ square n
     go (inr h) = h
-    go (inl h) = absurd (omega (arith, parts, none (square n) (square (vectorOf m k)) h (square-up _) (rw is-one at (rw (lagrange n (vectorOf m k)) at (square-up (cross n (vectorOf m k)))))))
+    go (inl h) = absurd (omega (arith, parts, none (square n) (square a) h (square-up a) (rw is-one at (rw (lagrange n a) at (square-up (cross n a))))))
+
+pub normal-long : {s : Vector} {v : Levels} {n : Vector} {m : Triangle} → Face s v n m → pos 1 ≤ℤ square n
+normal-long {v = v} {n} {m} f = let k = lowest v (f .some) in long n (vectorOf m (k .0)) (f .products (k .0) ∙ ap product (is-not (level v (k .0)) (k .1)))

@@ -46,15 +46,18 @@ module _ (c : Probe) (ν : Vector) (t : ℤ) (below : (v : Vector) → c .look v
       rw (← is) (let z = atom (dot ν (lay (c .signs) (unit k))) in omega (arith, parts, fact (search linear) h))
 
 -- ---- the product of two vectors that are both upward along the remaining axes, one of them 0 along the others
-part-high : (b : Bool) (x y : ℤ) → (b ≡ false → pos 1 ≤ℤ x) → (b ≡ true → y ≡ pos 0) → (b ≡ false → pos 1 ≤ℤ y) → pos (remains b) ≤ℤ (x *ℤ y)
+pub part-high : (b : Bool) (x y : ℤ) → (b ≡ false → pos 1 ≤ℤ x) → (b ≡ true → y ≡ pos 0) → (b ≡ false → pos 1 ≤ℤ y) → pos (remains b) ≤ℤ (x *ℤ y)
 part-high true x y h e k = rw (e refl) (let a = atom x in goal (search linear) (omega arith))
 part-high false x y h e k = at-most ((x -ℤ pos 1) *ℤ (y -ℤ pos 1) +ℤ (x -ℤ pos 1) +ℤ (y -ℤ pos 1)) (rest (h refl) by rest (k refl) and rest (h refl) and rest (k refl)) (byring (x ∷ y ∷ []) (search sides depth 40 fits 5000) tt)
 
+pub sum-high : (v : Levels) → T (not (allLevel v)) → (f : Axis → ℤ) → ((k : Axis) → pos (remains (level v k)) ≤ℤ f k) → pos 0 <ℤ (f axis0 +ℤ f axis1 +ℤ f axis2)
+sum-high v t f h =
+    let x = atom (f axis0) in let y = atom (f axis1) in let z = atom (f axis2) in
+    goal (search linear) (omega (arith, parts, h axis0, h axis1, h axis2, some-remain v t, remaining-count v))
+
 parts-high : (v : Levels) (a b : Vector) → T (not (allLevel v)) → ((k : Axis) → pos (remains (level v k)) ≤ℤ (part k a *ℤ part k b)) → pos 0 <ℤ dot a b
 unfolding dot
-parts-high v a b t h =
-    let x = atom (a .x *ℤ b .x) in let y = atom (a .y *ℤ b .y) in let z = atom (a .z *ℤ b .z) in
-    goal (search linear) (omega (arith, parts, h axis0, h axis1, h axis2, some-remain v t, remaining-count v))
+parts-high v a b t h = sum-high v t (λ k. part k a *ℤ part k b) h
 
 -- ---- an accepted pick
 module _ {c : Probe} {R : ℕ} {f : Found} (h : Accepting c R f) (g : Signs (c .signs)) (ν : Vector) (t : ℤ) (below : (v : Vector) → c .look v ≡ Filled → dot ν v <ℤ t) (above : t ≤ℤ dot ν (c .apex)) where
