@@ -6,7 +6,7 @@ use mathlib.Core.Bool.{Bool, true, _&&_}
 use mathlib.Core.List.{List, [], _∷_, _++_}
 use Prim.Native.Nat.{ℕ, _+_, _*_, _<_, _≤_}
 use lib.Dec.{T}
-use lib.IntN.{ℤ, pos, natAbs}
+use lib.IntN.{ℤ, pos, negsuc, natAbs}
 use lib.ListN.{length}
 use lib.Signed.{_≤ℤ_, _<ℤ_, ltZ}
 use Rattle.rules.specs.declared.Vector.{Vector}
@@ -20,14 +20,14 @@ use Rattle.rules.specs.declared.Pick.the-variants.{Accepted}
 use Rattle.rules.specs.declared.Footing.{Footing}
 use Rattle.rules.specs.declared.Firm.{Firm}
 use Rattle.rules.specs.declared.Firm.the-variants.{Stands, Refused as FirmRefused}
-use Rattle.rules.specs.Vectors.{_⊕_, scale, dot, cross, size}
+use Rattle.rules.specs.Vectors.{vector, _⊕_, scale, dot, cross, size}
 use Rattle.rules.specs.Solids.{box, inBox, filled, look}
 use Rattle.rules.specs.Walk.{signs, powers}
 use Rattle.rules.specs.TwoCalls.{walkOf}
 use Rattle.rules.specs.Lean.{squared, last, boundAt}
 use Rattle.rules.specs.Firm.{footing, startUnder, firmOf}
 use Rattle.laws.specs.Tests.{Each, In}
-use Rattle.slope.specs.Demands.{Inputs, signsOf, apexOf, powersOf, pickAt, OnSlope}
+use Rattle.slope.specs.Demands.{Inputs, signsOf, apexOf, powersOf, pickAt, OnSlope, at, line}
 use Rattle.planes.specs.Lean.{LeansBelow, lastOf, spreadOf}
 
 abbrev pub firmAt : Inputs → AcceptedPick → Firm
@@ -105,3 +105,30 @@ pub record FirmFooting : Type 0 where
   -- refused with 1 to 6 or 35, with no step
   pub refusals : (solid : Solid) (bytes : List ℕ) (pick : Pick) (frame reach : ℤ) (r : RefusedPick) → firmOf solid bytes pick frame reach ≡ FirmRefused r
       → (((1 ≤ r .number) × (r .number ≤ 6)) ⊎ (r .number ≡ 35)) × (r .steps ≡ 0)
+
+-- ---- not empty: W1 and W6 are firm to their last power, and there is room for it; by a wall a pick is firm to 2 of 4; a plane reaches eight tenths of the bound;
+-- and one that is touched at power 1 alone, with two level axes, leans by more than a right angle, so 2 is needed
+pub record FirmOn (i : Inputs) (power looks : ℕ) : Type 0 where
+  pub answer : AcceptedPick
+  pub is : pickAt i ≡ Accepted answer
+  pub footed : Footing
+  pub firmly : firmAt i answer ≡ Stands footed
+  pub powerIs : footed .power ≡ power
+  pub looksAre : footed .looks ≡ looks
+
+pub record TouchedSo (ν : Vector) (t : ℤ) (i : Inputs) (F : ℕ) (n : Vector) : Type 0 where
+  pub answer : AcceptedPick
+  pub is : pickAt i ≡ Accepted answer
+  pub isNormal : answer .normal ≡ n
+  pub touches : Touches ν t (i .start) (apexOf i) F (footing (signsOf i) answer)
+
+pub record FirmNotEmpty : Type 0 where
+  pub W1 : FirmOn (line (pos 1) (pos 2) (pos 5) (pos 808) (at 100) (pos 0) (pos 8)) 8 26
+  pub W1Slope : OnSlope (vector (pos 1) (pos 2) (pos 5)) (pos 808) (line (pos 1) (pos 2) (pos 5) (pos 808) (at 100) (pos 0) (pos 8))
+  pub W1Room : Room (line (pos 1) (pos 2) (pos 5) (pos 808) (at 100) (pos 0) (pos 8)) (W1 .answer)
+  pub W6 : FirmOn (line (pos 0) (pos 1) (pos 1) (pos 202) (at 100) (pos 0) (pos 8)) 8 18
+  pub byTheWall : FirmOn (line (pos 1) (pos 1) (pos 1) (pos 104) (vector (pos 3) (pos 50) (pos 50)) (pos 0) (pos 3)) 2 14
+  pub sharp : TouchedSo (vector (pos 12) (pos 12) (pos 5)) (pos 2929) (line (pos 1) (pos 1) (pos 1) (pos 301) (at 100) (pos 0) (pos 3)) 4 (at 1)
+  pub isSharp : 8 * (boundAt 4 (sharp .answer) .part * (squared (vector (pos 12) (pos 12) (pos 5)) * squared (at 1))) ≤ 10 * (boundAt 4 (sharp .answer) .whole * squared (cross (vector (pos 12) (pos 12) (pos 5)) (at 1)))
+  pub twoNeeded : TouchedSo (vector (pos 5) (pos 5) (negsuc 0)) (pos 906) (line (pos 0) (pos 0) (pos 1) (pos 101) (at 100) (pos 0) (pos 1)) 1 (vector (pos 0) (pos 0) (pos 1))
+  pub isTurnedAway : dot (vector (pos 5) (pos 5) (negsuc 0)) (vector (pos 0) (pos 0) (pos 1)) <ℤ pos 0

@@ -14,3 +14,4 @@ pub mod Firm
 pub mod Standing
 pub mod Heights
 pub mod FirmProved
+pub mod FirmCases
