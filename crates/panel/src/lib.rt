@@ -1,9 +1,10 @@
 // The panel's C interface (include/ulgenzhir.h): thin over the core, each answer flattened (crate `flat`).
 ghost use mathlib.Core.Path.{_≡_};
 ghost use Rattle.rules.specs.Vectors.{vector};
-ghost use Rattle.panel.specs.Promises.{wedge, stack, PickedWedge, PickedStack, TouchedWedge, TouchedStack, CheckedWedge, CheckedStack, WalkedWedge, WalkedStack, ReadP4, WroteP4, Displayed};
+ghost use Rattle.panel.specs.Promises.{wedge, stack, PickedWedge, PickedStack, TouchedWedge, TouchedStack, CheckedWedge, CheckedStack, WalkedWedge, WalkedStack, KnewLean, ReadP4, WroteP4, Displayed};
 use flat::FlatCheck;
 use flat::FlatDisplay;
+use flat::FlatLean;
 use flat::FlatPick;
 use flat::FlatReading;
 use flat::FlatReady;
@@ -190,6 +191,14 @@ pub extern "C" fn ulgenzhir_walk_stack(
     let k = stack_of(width, height, depth);
     let d = flat::ready_of(ready);
     flat::flatten_pick(pick::walk_stack(k, bytes, d, frame, reach))
+}
+
+#[no_mangle]
+pub extern "C" fn ulgenzhir_known_lean(pick: FlatPick, reach: i32) -> FlatLean
+    ensures { λ r. ⌜ KnewLean pick reach r ⌝ }
+{
+    let answer = flat::handed_pick(pick);
+    flat::flatten_lean(lean::known_lean(answer, reach))
 }
 
 #[no_mangle]
