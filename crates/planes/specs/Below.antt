@@ -1,13 +1,13 @@
 -- The bound. With the signs s of the frame and 0 ≤ e < ν·s, e² is less than 3·(ν·ν), for (ν·s)² is at most (ν·ν)(s·s); so where each way of the footing, L times, is within e,
 -- L²·|ν×n|² is less than 3·S·(ν·ν). Multiplied by n·n it is the sine's bound, and by Lagrange's identity the wall's.
-use mathlib.Core.Path.{_≡_, refl, sym, ap, ap₂, _∙_}
+use mathlib.Core.Path.{_≡_, refl}
 use mathlib.Core.List.{[], _∷_}
-use Prim.Native.Nat.{ℕ, _+_, _*_, _<_}
+use Prim.Native.Nat.{ℕ, _*_, _<_}
 use native.Mathlib.Omega.{arith}
 use lib.IntN.{ℤ, pos, negsuc, natAbs, _+ℤ_, _-ℤ_, _*ℤ_}
 use lib.Signed.{_≤ℤ_, _<ℤ_}
 use Rattle.integers.specs.Reify.{byring, sides}
-use Rattle.integers.specs.Order.{parts, square-from-zero}
+use Rattle.integers.specs.Order.{parts}
 use Rattle.rules.specs.declared.Vector.{Vector}
 use Rattle.rules.specs.declared.Levels.{Levels}
 use Rattle.rules.specs.declared.Triangle.{Triangle}

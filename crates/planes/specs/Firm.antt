@@ -92,6 +92,8 @@ pub record FirmFooting : Type 0 where
   -- what an answer tells, of every record; of an accepted pick its start is the pick's
   pub told : (solid : Solid) (bytes : List ℕ) (a : AcceptedPick) (frame reach : ℤ) (f : Footing) → firmOf solid bytes (Accepted a) frame reach ≡ Stands f → Stood solid bytes a frame reach f
   pub sameStart : (i : Inputs) (a : AcceptedPick) → pickAt i ≡ Accepted a → startUnder (a .apex) (signsOf i) ≡ i .start
+  -- an accepted pick has a footing: it is never refused one on its own solid
+  pub stands : (i : Inputs) (a : AcceptedPick) → pickAt i ≡ Accepted a → (f : Footing) × (firmAt i a ≡ Stands f)
   -- so on every convex part some plane was touched, and each that was leans below the bound of the footing, less than a right angle
   pub convex : (planes : List Plane) (i : Inputs) → ConvexPart planes i → (a : AcceptedPick) → pickAt i ≡ Accepted a → (f : Footing) → firmAt i a ≡ Stands f
       → ((plane : Plane) × In plane planes × Touched i plane)

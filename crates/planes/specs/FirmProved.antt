@@ -4,44 +4,40 @@ use mathlib.Core.Path.{_≡_, refl, sym, ap, subst, _∙_}
 use mathlib.Core.Logic.{_⊎_, inl, inr}
 use mathlib.Core.Bool.{Bool, true, false, not, _&&_, false≢true}
 use mathlib.Core.List.{List, [], _∷_}
-use Prim.Native.Nat.{ℕ, _+_, _*_, _<_, _≤_}
+use Prim.Native.Nat.{ℕ, _+_, _*_, _≤_}
 use native.Mathlib.Nat as NatL
 use native.Mathlib.Omega.{arith}
 use lib.Dec.{T}
-use lib.IntN.{ℤ, pos, negsuc, natAbs, negℤ, _+ℤ_, _-ℤ_, _*ℤ_}
+use lib.IntN.{ℤ, pos, negsuc, natAbs, _+ℤ_, _-ℤ_, _*ℤ_}
 use lib.ListN.{length}
-use lib.Signed.{_≤ℤ_, _<ℤ_, leZ, leZ-yes, ltZ, ltZ-yes, ltZ-no}
-use mir.Facts.{yes-and, and-yes}
+use lib.Signed.{_≤ℤ_, _<ℤ_, ltZ, ltZ-yes, ltZ-no}
+use mir.Facts.{and-yes}
 use Rattle.integers.specs.Reify.{byring, sides}
 use Rattle.integers.specs.Order.{parts, linear, atom, goal, fact}
 use Rattle.rules.specs.declared.Vector.{Vector}
 use Rattle.rules.specs.declared.Solid.{Solid}
-use Rattle.rules.specs.declared.Look.the-variants.{Filled, Empty}
+use Rattle.rules.specs.declared.Look.the-variants.{Filled}
 use Rattle.rules.specs.declared.Levels.{Levels}
-use Rattle.rules.specs.declared.Triangle.{Triangle}
 use Rattle.rules.specs.declared.Accepted.{Accepted as AcceptedPick}
 use Rattle.rules.specs.declared.Refused.{Refused as RefusedPick}
 use Rattle.rules.specs.declared.Bound.{Bound}
 use Rattle.rules.specs.declared.Footing.{Footing}
 use Rattle.rules.specs.declared.Pick.{Pick}
 use Rattle.rules.specs.declared.Pick.the-variants.{Accepted}
-use Rattle.rules.specs.declared.Firm.{Firm}
 use Rattle.rules.specs.declared.Firm.the-variants.{Stands, Refused as FirmRefused}
-use Rattle.rules.specs.Vectors.{_⊕_, scale, dot, lay}
-use Rattle.rules.specs.Solids.{inSide, box, inBox, filled, permitted, look}
+use Rattle.rules.specs.Vectors.{_⊕_, scale, dot}
+use Rattle.rules.specs.Solids.{box, inBox, permitted, look}
 use Rattle.rules.specs.Asked.{Asked, answered, refused}
-use Rattle.rules.specs.Walk.{Stop, signs, powers, Axis, unit, vectorOf, from, to, first, second, level, allLevel, Probe, Found, found}
+use Rattle.rules.specs.Walk.{Stop, signs, powers, first, allLevel, Probe, Found, found}
 use Rattle.rules.specs.Pick.{refusedAnswer}
 use Rattle.rules.specs.Lean.{levelsOf, last, lastPower, boundAt}
-use Rattle.rules.specs.Firm.{Way, sideways, along, against, belongs, wayOf, footing, held, startUnder, firm, firmAnswer, firmOf}
-use Rattle.laws.specs.Tests.{Each, In, is-true, is-not, less, not-less, compared}
-use Rattle.laws.specs.Only.{each-of, each-member}
-use Rattle.laws.specs.Parts.{part, part-sum, part-scale, vector-by-parts, vector-eq, dot-sum, dot-difference, dot-minus, dot-scale, scale-dot}
-use Rattle.laws.specs.Frames.{Signs, signs-are, lay-minus}
-use Rattle.laws.specs.Levels.{from-remains, to-remains}
-use Rattle.laws.specs.Flat.{product}
-use Rattle.range.specs.Ranges.{InSide, in-sides, between-naturals}
-use Rattle.laws.specs.Powers.{UpTo, powers-reach, few-powers}
+use Rattle.rules.specs.Firm.{Way, belongs, wayOf, footing, held, startUnder, firm, firmAnswer, firmOf}
+use Rattle.laws.specs.Tests.{Each, In, is-true, less, not-less}
+use Rattle.laws.specs.Only.{each-of}
+use Rattle.laws.specs.Parts.{part, part-sum, part-scale, vector-by-parts, vector-eq, dot-sum, dot-scale, scale-dot}
+use Rattle.laws.specs.Frames.{Signs, signs-are}
+use Rattle.range.specs.Ranges.{between-naturals}
+use Rattle.laws.specs.Powers.{powers-reach, few-powers}
 use Rattle.laws.specs.Says.{Says, Few, says-answered}
 use Rattle.laws.specs.Ranges.{Between, InCube}
 use Rattle.laws.specs.Boxes.{look-as, solid-cube}
@@ -52,12 +48,12 @@ use Rattle.laws.specs.Handed.{walk-accepted}
 use Rattle.slope.specs.Demands.{Inputs, signsOf, apexOf, probeAt, powersOf, pickAt, OnSlope, Demanded}
 use Rattle.slope.specs.Proved.{demand-3}
 use Rattle.planes.specs.Footings.{footing-by, footing-of}
-use Rattle.planes.specs.Orders.{at-most, less-by, rest, rest-less, same-rest, _and_, _by_}
-use Rattle.planes.specs.Turn.{Face, WaysWithin}
+use Rattle.planes.specs.Turn.{WaysWithin}
 use Rattle.planes.specs.Faces.{found-face}
 use Rattle.planes.specs.Measured.{accepted-faced, accepted-face, accepted-measurable, not-all-level}
-use Rattle.planes.specs.Standing.{FirmRefusal, last-is, firm-says, firm-full}
+use Rattle.planes.specs.Standing.{FirmRefusal, last-is, firm-says, firm-stands, firm-full}
 use Rattle.planes.specs.Heights.{found-upward}
+use Rattle.planes.specs.Rooms.{in-plane, between-box, up-to-last, at-least-one, look-filled}
 use Rattle.planes.specs.Upward.{leans-upward}
 use Rattle.planes.specs.Below.{lean-at, below-at}
 use Rattle.planes.specs.Lean.{LeansBelow, lastOf}
@@ -164,6 +160,13 @@ module _ (i : Inputs) (a : AcceptedPick) (is : pickAt i ≡ Accepted a) where
       let passed = accepted-faced _ _ _ _ _ a is .passed in
       ap (λ q. startUnder q (signsOf i)) apex-is ∙ start-again (i .start) (signsOf i) (solid-cube (i .solid) (i .bytes) (passed .permittedSolid) (i .start) (passed .startInside))
 
+  stands-here : (f : Footing) × (firmAt i a ≡ Stands f)
+  unfolding firmOf
+  stands-here =
+      let faced = accepted-faced _ _ _ _ _ a is in
+      firm-stands (permitted (i .solid) (i .bytes)) (look (i .solid) (i .bytes)) (i .frame) (i .reach) a (faced .passed .permittedReach) (faced .passed .permittedFrame) (faced .passed .permittedSolid) (accepted-measurable _ _ _ _ _ a is)
+      (rw same-start (faced .startFilled)) (rw apex-is (faced .apexEmpty))
+
   one-pick : (ν : Vector) (t : ℤ) (F : ℕ) → Touches ν t (i .start) (apexOf i) F (footing (signsOf i) a) → LeansFirmly ν F a
   one-pick ν t F = leans-firmly a (accepting .walked) (signs-are (natAbs (i .frame))) (accepting .asked .some) ν t (i .start) (apexOf i) F refl
 
@@ -221,69 +224,7 @@ convex planes i part a is f firm-is = (one-above planes (apexOf i) apex-out, λ 
     filled-below : (plane : Plane) → In plane planes → (u : Vector) → look (i .solid) (i .bytes) u ≡ Filled → dot (plane .normal) u <ℤ plane .offset
     filled-below plane k u e = let l = look-as (i .solid) (i .bytes) u true e in all-below planes u (sym (part .filledBelow u (l .0)) ∙ l .1) plane k
 
--- ---- on a slope: the ways lie in the plane
-module _ {s : Vector} {v : Levels} {n : Vector} {m : Triangle} (face : Face s v n m) where
-  not-level : (k : Axis) → T (not (level v k)) → dot n (vectorOf m k) ≡ pos 1
-  not-level k t = face .products k ∙ ap product (is-not (level v k) t)
-
-  is-level : (k : Axis) → T (level v k) → dot n (lay s (unit k)) ≡ pos 0
-  is-level k t = ap (dot n) (sym (face .stays k t)) ∙ face .products k ∙ ap product (is-true (level v k) t)
-
-  in-plane : (w : Way) → T (belongs v w) → dot n (wayOf s m w) ≡ pos 0
-  in-plane (sideways x) t = dot-difference n (second m x) (first m x) ∙ rw (not-level (to x) (to-remains v x t), not-level (from x) (from-remains v x t)) refl
-  in-plane (along k) t = is-level k t
-  in-plane (against k) t = ap (dot n) (lay-minus s (unit k)) ∙ dot-minus n (lay s (unit k)) ∙ ap negℤ (is-level k t)
-
--- and the box has no hollows: what lies between two of its points lies in it
-not-negative : (L x : ℤ) → pos 1 ≤ℤ L → pos 0 ≤ℤ (L *ℤ x) → pos 0 ≤ℤ x
-not-negative L x one h = go (compared x (pos 0))
-  where
-    go : (x <ℤ pos 0) ⊎ (pos 0 ≤ℤ x) → pos 0 ≤ℤ x
-    go (inr k) = k
-    go (inl k) =
-        let high : pos 0 ≤ℤ L = omega (arith, parts) in
-        let none : L ≤ℤ pos 0 = at-most (L *ℤ x +ℤ L *ℤ (pos 0 -ℤ x -ℤ pos 1)) (h and high by rest-less k) (byring (L ∷ x ∷ []) (search sides depth 40 fits 5000) tt) in
-        absurd (omega (arith, parts))
-
-between-side : (side p u l L : ℤ) → pos 1 ≤ℤ L → pos 0 ≤ℤ l → l ≤ℤ L → InSide side p → InSide side (p +ℤ L *ℤ u) → InSide side (p +ℤ l *ℤ u)
-between-side side p u l L one up few i j = record {
-  low = not-negative L (p +ℤ l *ℤ u) one (same-rest (byring (p ∷ u ∷ l ∷ L ∷ []) (search sides depth 40 fits 5000) tt) (rest few by i .low and up by j .low));
-  below =
-      let k = not-negative L (side -ℤ (p +ℤ l *ℤ u) -ℤ pos 1) one (same-rest (byring (side ∷ p ∷ u ∷ l ∷ L ∷ []) (search sides depth 40 fits 5000) tt) (rest few by rest-less (i .below) and up by rest-less (j .below))) in
-      less-by (side -ℤ (p +ℤ l *ℤ u) -ℤ pos 1) k (byring (side ∷ p ∷ u ∷ l ∷ []) (search sides depth 40 fits 5000) tt);
-}
-
-in-side : {side x : ℤ} → InSide side x → T (inSide side x)
-in-side {side} {x} i = yes-and (leZ (pos 0) x) (ltZ x side) (i .low .le) (i .below .lt)
-
-between-box : (sides p u : Vector) (l L : ℤ) → pos 1 ≤ℤ L → pos 0 ≤ℤ l → l ≤ℤ L → T (inBox sides p) → T (inBox sides (p ⊕ scale L u)) → T (inBox sides (p ⊕ scale l u))
-unfolding inBox _⊕_ scale
-between-box sides p u l L one up few i j =
-    let a = in-sides sides p i in let b = in-sides sides (p ⊕ scale L u) j in
-    yes-and (inSide (sides .x) (p .x +ℤ l *ℤ u .x)) _ (in-side (between-side (sides .x) (p .x) (u .x) l L one up few (a .of-x) (b .of-x)))
-    (yes-and (inSide (sides .y) (p .y +ℤ l *ℤ u .y)) _ (in-side (between-side (sides .y) (p .y) (u .y) l L one up few (a .of-y) (b .of-y))) (in-side (between-side (sides .z) (p .z) (u .z) l L one up few (a .of-z) (b .of-z))))
-
--- ---- no power is beyond the last
-last-high : (R l : ℕ) (ls : List ℕ) → UpTo R l ls → R ≤ last ls
-unfolding last
-last-high R l [] h = absurd h
-last-high R l (k ∷ []) h = h .1
-last-high R l (k ∷ j ∷ ks) h = last-high R (l + l) (j ∷ ks) (h .2)
-
-up-to-last : (R l : ℕ) (ls : List ℕ) → UpTo R l ls → Each (λ k. k ≤ last ls) ls
-unfolding last
-up-to-last R l [] h = absurd h
-up-to-last R l (k ∷ []) h = (NatL.le-refl k, tt)
-up-to-last R l (k ∷ j ∷ ks) h = (omega (arith, h .1, last-high R (l + l) (j ∷ ks) (h .2)), up-to-last R (l + l) (j ∷ ks) (h .2))
-
-at-least-one : (R : ℕ) → 1 ≤ R → 1 ≤ lastPower R
-unfolding lastPower
-at-least-one R h = omega (arith, h, last-high R 1 (powers R) (powers-reach R))
-
-look-filled : (solid : Solid) (bytes : List ℕ) (u : Vector) → T (inBox (box solid) u) → filled solid bytes u ≡ true → look solid bytes u ≡ Filled
-unfolding look
-look-filled solid bytes u i f = rw (is-true (inBox (box solid) u) i, f) refl
-
+-- ---- on a slope
 module _ (n : Vector) (t : ℤ) (i : Inputs) (o : OnSlope n t i) (a : AcceptedPick) (is : pickAt i ≡ Accepted a) (room : Room i a) where
   abbrev L : ℕ
   L = lastOf i
@@ -342,6 +283,7 @@ firm-footing = record {
   oneWalk = λ solid bytes d frame reach a is ν t p F apex h. leans-firmly a (walk-accepted solid bytes d frame reach a is .1) (signs-are (natAbs frame)) (not-all-level solid bytes d frame reach a is) ν t p (a .apex) F apex h;
   told = told;
   sameStart = same-start;
+  stands = stands-here;
   convex = convex;
   onSlope = on-slope;
   fewLooks = λ solid bytes pick frame reach. few-looks solid bytes pick frame reach _ (λ _. NatL.le-refl _);

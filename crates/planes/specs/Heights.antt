@@ -24,8 +24,8 @@ use Rattle.rules.specs.Lean.{levelsOf}
 use Rattle.rules.specs.Firm.{sideways, along}
 use Rattle.laws.specs.Tests.{compared}
 use Rattle.laws.specs.Parts.{NonNegative, part, part-sum, part-scale, vector-eq, of2, dot-difference, scale-dot, scale-one}
-use Rattle.laws.specs.Triples.{all-of, detOf, of9, of12, crosses, combined, expand, expand-crosses}
-use Rattle.laws.specs.Levels.{part-levelled, lowest}
+use Rattle.laws.specs.Triples.{all-of, of9, of12, crosses, combined, expand, expand-crosses}
+use Rattle.laws.specs.Levels.{part-levelled}
 use Rattle.laws.specs.Flat.{Flat, product, levelled-dot}
 use Rattle.laws.specs.Tame.{Tame}
 use Rattle.laws.specs.Frames.{Signs, lay-lay, lay-dot, lay-size, sum-size}

@@ -1,13 +1,13 @@
 -- The known lean, proved: a pick that was accepted looked both ways from its apex along each side and each level axis, at the last power, and every voxel there was empty.
 -- So at that power no way takes the apex below the plane, and the apex itself is above it by less than ν·s.
-use mathlib.Core.Path.{_≡_, refl, sym, ap, _∙_}
+use mathlib.Core.Path.{_≡_, refl, sym, _∙_}
 use mathlib.Core.Logic.{inl, inr}
-use mathlib.Core.Bool.{Bool, true, false, _&&_}
+use mathlib.Core.Bool.{true, false, _&&_}
 use mathlib.Core.List.{List, [], _∷_}
-use Prim.Native.Nat.{ℕ, _+_, _*_}
+use Prim.Native.Nat.{ℕ, _+_}
 use native.Mathlib.Omega.{arith}
 use lib.Dec.{T}
-use lib.IntN.{ℤ, pos, natAbs, negℤ, _+ℤ_, _-ℤ_, _*ℤ_}
+use lib.IntN.{ℤ, pos, natAbs, negℤ, _+ℤ_, _*ℤ_}
 use lib.Signed.{_≤ℤ_, _<ℤ_, ltZ-yes, ltZ-no}
 use mir.Facts.{yes-and}
 use Rattle.integers.specs.Reify.{byring, sides}
@@ -23,8 +23,8 @@ use Rattle.rules.specs.declared.Pick.the-variants.{Accepted}
 use Rattle.rules.specs.declared.Lean.the-variants.{Known}
 use Rattle.rules.specs.Vectors.{_⊕_, minus, scale, dot, lay}
 use Rattle.rules.specs.Solids.{between, filledWedge, look}
-use Rattle.rules.specs.Walk.{powers, unit, way}
-use Rattle.rules.specs.Lean.{levelsOf, squared, spread, last, lastPower, boundAt, measurable, leanOf}
+use Rattle.rules.specs.Walk.{powers, unit}
+use Rattle.rules.specs.Lean.{levelsOf, last, lastPower, boundAt, measurable, leanOf}
 use Rattle.rules.specs.Firm.{Way, sideways, along, against, belongs, wayOf, footing}
 use Rattle.laws.specs.Tests.{Each, In, is-true}
 use Rattle.laws.specs.Parts.{part, part-minus, vector-by-parts, dot-sum, dot-scale, dot-minus, scale-dot}
@@ -40,7 +40,7 @@ use Rattle.planes.specs.Turn.{WaysWithin}
 use Rattle.planes.specs.Measured.{accepted-faced, accepted-face, accepted-measurable}
 use Rattle.planes.specs.Upward.{leans-upward}
 use Rattle.planes.specs.Below.{close-at, lean-at, below-at}
-use Rattle.planes.specs.Lean.{OnPlane, LeansBelow, lastOf, height, Leans, slopeOf, KnownLean}
+use Rattle.planes.specs.Lean.{OnPlane, lastOf, height, Leans, slopeOf, KnownLean}
 use Rattle.planes.specs.Orders.{rest}
 
 -- ---- the last power is one of them

@@ -13,5 +13,6 @@ pub mod LeanCases
 pub mod Firm
 pub mod Standing
 pub mod Heights
+pub mod Rooms
 pub mod FirmProved
 pub mod FirmCases

@@ -2,12 +2,12 @@
 -- and its normal's sizes add up to at most the reach.
 use mathlib.Core.Path.{_≡_, refl, ap, subst, _∙_}
 use mathlib.Core.Logic.{inr}
-use mathlib.Core.Bool.{Bool, true, false, not, _&&_}
+use mathlib.Core.Bool.{Bool, true, false, not}
 use mathlib.Core.List.{List, []}
-use Prim.Native.Nat.{ℕ, zero, suc, _+_, _-_, _≤_}
+use Prim.Native.Nat.{ℕ, zero, suc, _-_, _≤_}
 use native.Mathlib.Omega.{arith}
 use lib.Dec.{T, leb, le→leb}
-use lib.IntN.{ℤ, pos, natAbs}
+use lib.IntN.{ℤ, natAbs}
 use lib.ListN.{length}
 use mir.Facts.{yes-and}
 use Rattle.range.specs.Ranges.{between-naturals}
@@ -25,17 +25,16 @@ use Rattle.rules.specs.declared.Pick.the-variants.{Accepted}
 use Rattle.rules.specs.Vectors.{lay, size}
 use Rattle.rules.specs.Solids.{permitted, look}
 use Rattle.rules.specs.Asked.{Asked, answered, refused}
-use Rattle.rules.specs.Walk.{Stop, stop, asked, signs, units, vectorOf, pairs, step, normal, allLevel, only, remaining, takesPart, levelled, Axis, Probe, Found, laid, found, round, walk, rounds, toTheEnd}
+use Rattle.rules.specs.Walk.{Stop, stop, asked, signs, units, vectorOf, pairs, step, normal, allLevel, only, remaining, takesPart, levelled, Probe, Found, found, round, walk, rounds}
 use Rattle.rules.specs.Pick.{isInside, probe, check, pick, pickOf}
-use Rattle.rules.specs.TwoCalls.{handed, walkOn, walkOf}
+use Rattle.rules.specs.TwoCalls.{walkOn, walkOf}
 use Rattle.rules.specs.Lean.{levelsOf, within, measurable}
-use Rattle.laws.specs.Parts.{part, part-lay, part-of}
 use Rattle.laws.specs.Triples.{All, all-by, all-of}
 use Rattle.laws.specs.Bounds.{Bounded, bounded-is}
 use Rattle.laws.specs.Boxes.{units-within, probeOn, chosen-within}
 use Rattle.laws.specs.Frames.{Signs, signs-are, sign-size, lay-size}
 use Rattle.laws.specs.Says.{says-answered}
-use Rattle.laws.specs.Answered.{Both, both-answered, asked-answered, voxelsOf}
+use Rattle.laws.specs.Answered.{both-answered, asked-answered, voxelsOf}
 use Rattle.laws.specs.PickRule.{Faced}
 use Rattle.laws.specs.PickParts.{WalkPart, walk-part, pick-parts}
 use Rattle.laws.specs.Rounds.{WalkFound}

@@ -1,7 +1,7 @@
 -- The search of a footing, read backward: what an answer says of the voxels that were looked at, and how many they are; and forward: where all are filled it reaches its last power.
-use mathlib.Core.Path.{_≡_, refl, sym, ap, subst, _∙_}
+use mathlib.Core.Path.{_≡_, refl, ap, subst, _∙_}
 use mathlib.Core.Logic.{_⊎_, inl, inr}
-use mathlib.Core.Bool.{Bool, true, false, not, false≢true}
+use mathlib.Core.Bool.{Bool, true, false}
 use mathlib.Core.List.{List, [], _∷_, _++_, map}
 use Prim.Native.Nat.{ℕ, suc, _+_, _*_, _≤_}
 use native.Mathlib.Nat as NatL
@@ -16,7 +16,7 @@ use Rattle.rules.specs.declared.Accepted.{Accepted as AcceptedPick}
 use Rattle.rules.specs.declared.Pick.{Pick}
 use Rattle.rules.specs.declared.Pick.the-variants.{Accepted, Refused}
 use Rattle.rules.specs.declared.Bound.{Bound}
-use Rattle.rules.specs.declared.Firm.{Firm}
+use Rattle.rules.specs.declared.Footing.{Footing}
 use Rattle.rules.specs.declared.Firm.the-variants.{Stands}
 use Rattle.rules.specs.Vectors.{_⊕_, scale, origin}
 use Rattle.rules.specs.Solids.{between}
@@ -197,12 +197,31 @@ module _ (ok : Bool) (look : Vector → Look) (frame reach : ℤ) where
         says-ensure _ _ _ (λ _. early (omega arith, omega arith) [] (omega arith)) (λ _.
         says-ensure _ _ _ (λ _. early (omega arith, omega arith) [] (omega arith)) (λ _. on-says (between-naturals 1 256 reach reached .1) pick)))
 
-  -- ---- where nothing is refused and all are filled at every power
-  pub firm-full : (a : AcceptedPick) → T (between (pos 1) reach (pos 256)) → T (between (pos 0) frame (pos 7)) → T ok → T (measurable a) → look (startUnder (a .apex) s) ≡ Filled → look (a .apex) ≡ Empty
-      → Each (AllFilled look (startUnder (a .apex) s) (footing s a)) (powers R)
-      → firmAnswer (firm ok look frame reach (Accepted a)) ≡ Stands (record { power = lastPower R; looks = 2 + length (powers R) * length (footing s a); bound = boundAt (lastPower R) a })
-  unfolding firmAnswer firm firmUnder placing facing ensure asked lookAt seen isInside after _>>=_ lastPower
-  firm-full a reached framed permitted measured e d h =
-      let r = firm-all look (startUnder (a .apex) s) (footing s a) 0 (powers R) h in
-      rw (is-true (between (pos 1) reach (pos 256)) reached, is-true (between (pos 0) frame (pos 7)) framed, is-true ok permitted, is-true (measurable a) measured, e, d, r .1, last-is look (startUnder (a .apex) s) (powers R))
-      (ap (λ (n : ℕ). Stands (record { power = last (powers R); looks = n; bound = boundAt (last (powers R)) a })) (omega (arith, r .2, length-append (r .0) [])))
+  -- ---- where nothing is refused
+  module _ (a : AcceptedPick) (reached : T (between (pos 1) reach (pos 256))) (framed : T (between (pos 0) frame (pos 7))) (permitted : T ok) (measured : T (measurable a))
+      (e : look (startUnder (a .apex) s) ≡ Filled) (d : look (a .apex) ≡ Empty) where
+    abbrev from : Vector
+    from = startUnder (a .apex) s
+
+    -- the footing that the search gives
+    stands-at : (F : ℕ) (t : List Vector) → firmFrom look from 0 (powers R) (footing s a) ≡ answered F t → firmAnswer (firm ok look frame reach (Accepted a)) ≡ Stands (record { power = F; looks = 2 + length t; bound = boundAt F a })
+    unfolding firmAnswer firm firmUnder placing facing ensure asked lookAt seen isInside after _>>=_
+    stands-at F t h =
+        rw (is-true (between (pos 1) reach (pos 256)) reached, is-true (between (pos 0) frame (pos 7)) framed, is-true ok permitted, is-true (measurable a) measured, e, d, h)
+        (ap (λ (n : ℕ). Stands (record { power = F; looks = n; bound = boundAt F a })) (omega (arith, length-append t [])))
+
+    -- it always gives one
+    pub firm-stands : (f : Footing) × (firmAnswer (firm ok look frame reach (Accepted a)) ≡ Stands f)
+    firm-stands = go (firmFrom look from 0 (powers R) (footing s a)) refl (firm-from-says look from (footing s a) 0 (powers R))
+      where
+        go : {Q : ℕ → List Vector → Type 0} {N : ℕ} (x : Asked Stop ℕ) → firmFrom look from 0 (powers R) (footing s a) ≡ x → Says Q (Few N (λ r. ⊥)) x → (f : Footing) × (firmAnswer (firm ok look frame reach (Accepted a)) ≡ Stands f)
+        go (answered F t) k h = (_, stands-at F t k)
+        go (refused r t) k h = absurd (h .of .holds)
+
+    -- where all are filled at every power, to the last
+    pub firm-full : Each (AllFilled look (startUnder (a .apex) (signs (natAbs frame))) (footing (signs (natAbs frame)) a)) (powers (natAbs reach))
+        → firmAnswer (firm ok look frame reach (Accepted a)) ≡ Stands (record { power = lastPower R; looks = 2 + length (powers R) * length (footing s a); bound = boundAt (lastPower R) a })
+    unfolding lastPower
+    firm-full h =
+        let r = firm-all look from (footing s a) 0 (powers R) h in
+        stands-at _ (r .0) (r .1) ∙ rw (last-is look from (powers R)) (ap (λ (n : ℕ). Stands (record { power = last (powers R); looks = n; bound = boundAt (last (powers R)) a })) (omega (arith, r .2)))

@@ -1,10 +1,10 @@
 -- How far a vector ν turns from the normal n of a triangle m: |ν×n|² is made of ν's products with the sides and the level vectors. If each of these is within e it is at most S·e², S the spread.
 -- With three remaining corners that is so since two of the products are alike in sign; with a level axis, whose vector is at right angles to the side, it is plain.
-use mathlib.Core.Path.{_≡_, refl, sym, ap, subst, _∙_}
+use mathlib.Core.Path.{_≡_, refl, sym, ap, _∙_}
 use mathlib.Core.Logic.{_⊎_, inl, inr}
-use mathlib.Core.Bool.{Bool, true, false, not, _&&_}
+use mathlib.Core.Bool.{Bool, true, false, not}
 use mathlib.Core.List.{List, [], _∷_}
-use Prim.Native.Nat.{ℕ, _+_, _≤_, max}
+use Prim.Native.Nat.{ℕ, _+_, _≤_}
 use native.Mathlib.Omega.{arith}
 use lib.Dec.{T}
 use lib.IntN.{ℤ, pos, negℤ, _+ℤ_, _-ℤ_, _*ℤ_}
@@ -17,7 +17,7 @@ use Rattle.rules.specs.declared.Levels.{Levels}
 use Rattle.rules.specs.declared.Triangle.{Triangle}
 use Rattle.rules.specs.declared.Pair.{Pair}
 use Rattle.rules.specs.declared.Pair.the-variants.{P01, P02, P12}
-use Rattle.rules.specs.Vectors.{_⊕_, _⊖_, minus, scale, dot, cross, det, lay}
+use Rattle.rules.specs.Vectors.{_⊕_, _⊖_, scale, dot, cross, det, lay}
 use Rattle.rules.specs.Walk.{Axis, axis0, axis1, axis2, allAxes, unit, vectorOf, from, to, first, second, way, levels, level, noneLevel, allLevel, keep, only, takesPart}
 use Rattle.rules.specs.Lean.{squared, sides as sidePairs, longest, spread}
 use Rattle.rules.specs.Firm.{Way, sideways, along, against, belongs, wayOf}
@@ -25,7 +25,7 @@ use Rattle.laws.specs.Tests.{In, is-not, compared}
 use Rattle.laws.specs.Only.{in-only}
 use Rattle.laws.specs.Levels.{lowest}
 use Rattle.laws.specs.Parts.{part, of2, of3, dot-difference, dot-minus}
-use Rattle.laws.specs.Triples.{detOf, of9, crosses, combined, expand}
+use Rattle.laws.specs.Triples.{detOf, of9, combined, expand}
 use Rattle.laws.specs.Flat.{product}
 use Rattle.laws.specs.Generators.{Products}
 use Rattle.laws.specs.Tame.{turned}

@@ -3,7 +3,7 @@ use mathlib.Core.Path.{_≡_, refl, sym, ap, subst, _∙_}
 use mathlib.Core.Logic.{inl, inr}
 use mathlib.Core.Bool.{Bool, true, false, not, false≢true}
 use mathlib.Core.List.{List, [], _∷_}
-use Prim.Native.Nat.{ℕ, _+_}
+use Prim.Native.Nat.{ℕ}
 use native.Mathlib.Omega.{arith}
 use lib.Dec.{T}
 use lib.IntN.{ℤ, pos, negsuc, negℤ, _+ℤ_, _-ℤ_, _*ℤ_}
@@ -14,14 +14,13 @@ use Rattle.rules.specs.declared.Vector.{Vector}
 use Rattle.rules.specs.declared.Look.the-variants.{Filled}
 use Rattle.rules.specs.declared.Levels.{Levels}
 use Rattle.rules.specs.Vectors.{minus, scale, dot, lay}
-use Rattle.rules.specs.Walk.{Axis, axis0, axis1, axis2, unit, level, allLevel, remaining, Probe, Found}
+use Rattle.rules.specs.Walk.{Axis, axis0, axis1, axis2, unit, level, allLevel, Probe, Found}
 use Rattle.rules.specs.Lean.{isZero}
-use Rattle.laws.specs.Tests.{is-not}
-use Rattle.laws.specs.Parts.{part, part-of, NonNegative, dot-sum, dot-scale, dot-minus, dot-unit}
+use Rattle.laws.specs.Parts.{part, dot-sum, dot-scale, dot-minus, dot-unit}
 use Rattle.laws.specs.Levels.{remains, remaining-count, some-remain, is-zero, levels-of}
 use Rattle.laws.specs.Frames.{Signs, lay-lay, lay-dot, lay-minus, lay-part-zero, lay-part-high}
-use Rattle.laws.specs.Looks.{Fell, FellAt}
-use Rattle.laws.specs.Axes.{FellAlong, AxesOf}
+use Rattle.laws.specs.Looks.{FellAt}
+use Rattle.laws.specs.Axes.{FellAlong}
 use Rattle.laws.specs.Picks.{Accepting}
 use Rattle.laws.specs.Answers.{found-signs, found-levels}
 use Rattle.planes.specs.Orders.{at-most, rest, _and_, _by_}
