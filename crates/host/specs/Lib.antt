@@ -1,7 +1,10 @@
--- `Demands`, `Touches` and `Rows` are definitions; `Proved`, `TouchProved` and `RowProved` show that demand 3, what is wanted of touches and the two calls in a row reach the host.
+-- `Demands`, `Touches`, `Rows` and `Leans` are definitions; `Proved`, `TouchProved`, `RowProved` and `LeanProved` show that demand 3, what is wanted of touches, the two calls in a row, the known lean
+-- and the firm footing reach the host.
 pub mod Demands
 pub mod Proved
 pub mod Touches
 pub mod TouchProved
 pub mod Rows
 pub mod RowProved
+pub mod Leans
+pub mod LeanProved

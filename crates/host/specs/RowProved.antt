@@ -51,7 +51,7 @@ module _ (solid : Solid) (bytes : List ℕ) (p : Vector) (frame reach : ℤ) whe
   row-is checks walks r (walkAnswers c h n w) = walks (c .ready) r w ∙ walked-so _ refl c (checks c h) n
 
 -- so a row is a call of a pick
-row-called : {i : Inputs} {r : FlatPick} → RowCalled i r → Called i r
+pub row-called : {i : Inputs} {r : FlatPick} → RowCalled i r → Called i r
 row-called {r = r} (wedgeRow wedge p frame reach e h) = wedgeCalled wedge p frame reach e (record { is = row-is _ _ p frame reach (λ c k. k .is) (λ d x k. k .is) r h })
 row-called {r = r} (stackRow stack bytes p frame reach e h) = stackCalled stack bytes p frame reach e (record { is = row-is _ _ p frame reach (λ c k. k .is) (λ d x k. k .is) r h })
 

@@ -1,4 +1,4 @@
--- The promises of the panel's twelve functions: each answer is the core's definition, flattened; a lent buffer holds what the core's promise says.
+-- The promises of the panel's fourteen functions: each answer is the core's definition, flattened; a lent buffer holds what the core's promise says.
 -- These are definitions: nothing here is proved.
 use mathlib.Core.Path.{_≡_}
 use mathlib.Core.List.{List, []}
@@ -13,6 +13,7 @@ use Rattle.rules.specs.Pick.{pickOf}
 use Rattle.rules.specs.Touch.{touchOf}
 use Rattle.rules.specs.TwoCalls.{checkOf, walkOf}
 use Rattle.rules.specs.Lean.{leanOf}
+use Rattle.rules.specs.Firm.{firmOf}
 use Rattle.rules.specs.P4.{reading, writing, readAnswer, writeAnswer, stored}
 use Rattle.rules.specs.Display.{display}
 use Rattle.flat.specs.declared.FlatPick.{FlatPick}
@@ -20,10 +21,11 @@ use Rattle.flat.specs.declared.FlatTouch.{FlatTouch}
 use Rattle.flat.specs.declared.FlatReady.{FlatReady}
 use Rattle.flat.specs.declared.FlatCheck.{FlatCheck}
 use Rattle.flat.specs.declared.FlatLean.{FlatLean}
+use Rattle.flat.specs.declared.FlatFirm.{FlatFirm}
 use Rattle.flat.specs.declared.FlatReading.{FlatReading}
 use Rattle.flat.specs.declared.FlatWriting.{FlatWriting}
 use Rattle.flat.specs.declared.FlatDisplay.{FlatDisplay}
-use Rattle.flat.specs.Flat.{flatPick, handedPick, flatTouch, readyOf, flatCheck, flatLean, flatReading, flatWriting, flatDisplay}
+use Rattle.flat.specs.Flat.{flatPick, handedPick, flatTouch, readyOf, flatCheck, flatLean, flatFirm, flatReading, flatWriting, flatDisplay}
 
 abbrev pub wedge : ℤ → ℤ → ℤ → ℤ → Wedge
 wedge a b c h = record { a = a; b = b; c = c; h = h }
@@ -57,6 +59,12 @@ pub record WalkedStack (k : Stack) (bytes : List ℕ) (ready : FlatReady) (frame
 
 pub record KnewLean (pick : FlatPick) (reach : ℤ) (r : FlatLean) : Type 0 where
   pub is : r ≡ flatLean (leanOf (handedPick pick) reach)
+
+pub record FirmedWedge (w : Wedge) (pick : FlatPick) (frame reach : ℤ) (r : FlatFirm) : Type 0 where
+  pub is : r ≡ flatFirm (firmOf (IsWedge w) [] (handedPick pick) frame reach)
+
+pub record FirmedStack (k : Stack) (bytes : List ℕ) (pick : FlatPick) (frame reach : ℤ) (r : FlatFirm) : Type 0 where
+  pub is : r ≡ flatFirm (firmOf (IsStack k) bytes (handedPick pick) frame reach)
 
 pub record ReadP4 (src before after : List ℕ) (r : FlatReading) : Type 0 where
   pub answers : r ≡ flatReading (readAnswer (reading src (length before)))

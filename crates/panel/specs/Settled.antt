@@ -11,10 +11,11 @@ use Rattle.flat.specs.declared.FlatTouch.{FlatTouch}
 use Rattle.flat.specs.declared.FlatReady.{FlatReady}
 use Rattle.flat.specs.declared.FlatCheck.{FlatCheck}
 use Rattle.flat.specs.declared.FlatLean.{FlatLean}
+use Rattle.flat.specs.declared.FlatFirm.{FlatFirm}
 use Rattle.flat.specs.declared.FlatReading.{FlatReading}
 use Rattle.flat.specs.declared.FlatWriting.{FlatWriting}
 use Rattle.flat.specs.declared.FlatDisplay.{FlatDisplay}
-use Rattle.panel.specs.Promises.{PickedWedge, PickedStack, TouchedWedge, TouchedStack, CheckedWedge, CheckedStack, WalkedWedge, WalkedStack, KnewLean, ReadP4, WroteP4, Displayed}
+use Rattle.panel.specs.Promises.{PickedWedge, PickedStack, TouchedWedge, TouchedStack, CheckedWedge, CheckedStack, WalkedWedge, WalkedStack, KnewLean, FirmedWedge, FirmedStack, ReadP4, WroteP4, Displayed}
 
 pub picked-wedge-settled : {w : Wedge} {p : Vector} {frame reach : ℤ} {a b : FlatPick} → PickedWedge w p frame reach a → PickedWedge w p frame reach b → a ≡ b
 picked-wedge-settled h k = h .is ∙ sym (k .is)
@@ -42,6 +43,12 @@ walked-stack-settled h k = h .is ∙ sym (k .is)
 
 pub knew-lean-settled : {pick : FlatPick} {reach : ℤ} {a b : FlatLean} → KnewLean pick reach a → KnewLean pick reach b → a ≡ b
 knew-lean-settled h k = h .is ∙ sym (k .is)
+
+pub firmed-wedge-settled : {w : Wedge} {pick : FlatPick} {frame reach : ℤ} {a b : FlatFirm} → FirmedWedge w pick frame reach a → FirmedWedge w pick frame reach b → a ≡ b
+firmed-wedge-settled h k = h .is ∙ sym (k .is)
+
+pub firmed-stack-settled : {s : Stack} {bytes : List ℕ} {pick : FlatPick} {frame reach : ℤ} {a b : FlatFirm} → FirmedStack s bytes pick frame reach a → FirmedStack s bytes pick frame reach b → a ≡ b
+firmed-stack-settled h k = h .is ∙ sym (k .is)
 
 pub read-p4-settled : {src before a b : List ℕ} {q r : FlatReading} → ReadP4 src before a q → ReadP4 src before b r → (q ≡ r) × (a ≡ b)
 read-p4-settled h k = (h .answers ∙ sym (k .answers), h .leaves ∙ sym (k .leaves))
