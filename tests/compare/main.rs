@@ -12,8 +12,6 @@
 mod answers;
 mod bridge;
 mod call;
-#[path = "../shared/chance.rs"]
-mod chance;
 mod displays;
 mod flat;
 mod listed;
@@ -31,7 +29,7 @@ mod writes;
 
 use bridge::Bridge;
 use call::{Answer, Batch, Call, Reply, Walk};
-use chance::Chance;
+use second::chance::{self, Chance};
 use std::process::ExitCode;
 use tally::Tally;
 use wedges::SMALL_NORMALS;
