@@ -93,8 +93,8 @@ pub fn stack(chance: &mut Chance, _: u64) -> Vec<Call> {
 
 /// With looks that every reach allows, so that it walks.
 pub fn unforeseen(chance: &mut Chance, _: u64) -> Vec<Call> {
-    decided_by(chance, |chance, apex| {
-        let apex = plus(apex, [0, 1, 2].map(|_| chance.between(-3, 3)));
+    decided_by(chance, |chance, solid, _, _| {
+        let apex = plus(solid.apex, [0, 1, 2].map(|_| chance.between(-3, 3)));
         Walk::From(Handed { apex, level: level(chance), looks: chance.between(0, 8) as u32 })
     })
 }

@@ -1,6 +1,7 @@
 //! The cases that document 01 lists, those of document 02's landed requests, their readings, those
-//! of known lean and firm footing, and the lines of docs/LIMITS.md, with every expected value written out. The unit checks hold the
-//! second program to them, and the comparison holds the library to them.
+//! of known lean and firm footing, and the lines of docs/LIMITS.md, with every expected value
+//! written out. The unit checks hold the second program to them, and the comparison holds the
+//! library to them.
 
 use crate::pick::Pick;
 use crate::ready::Handed;
