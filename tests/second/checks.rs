@@ -49,7 +49,7 @@ fn as_sizes([width, height, depth]: [i64; 3]) -> Sizes {
 
 #[cfg_attr(test, test)]
 pub fn lines() {
-    for (input, output) in LINES {
+    for (input, output) in LINES.iter().chain(LEANING) {
         assert_eq!(session(input.as_bytes()), format!("{output}\n").as_bytes(), "{input:?}");
     }
 }

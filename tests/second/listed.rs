@@ -108,6 +108,14 @@ pub const LINES: &[(&str, &str)] = &[
     ("1 2 5 808 100 100 100 0 -2147483649", "B"),
 ];
 
+/// Limits: lines whose answers lean nearly as far as the known lean has it, with no level axis, two
+/// and one. (The steps and looks of the first are the second program's.) No session has them.
+pub const LEANING: &[(&str, &str)] = &[
+    ("20 31 22 7301 100 100 100 0 5", "N 1 2 2 2 83"),
+    ("15 7 7 2901 100 100 100 0 3", "N 1 0 0 0 16"),
+    ("18 35 17 7002 100 100 100 0 4", "N 1 1 0 0 19"),
+];
+
 /// Lines whose triangle is listed, with the vectors laid in.
 pub const TRIANGLES: &[(&str, [[i64; 3]; 3])] = &[
     ("1 2 5 808 100 100 100 0 8", [[1, 0, 0], [-1, 1, 0], [-2, -1, 1]]),
@@ -408,11 +416,13 @@ pub const FOOTINGS: &[(&str, &str, &str)] = &[
     ("1 1 0 202 100 100 100 0 8", "L 9 128", "F 8 18 9 128"),
     ("1 0 0 101 100 100 100 0 8", "L 6 64", "F 8 18 6 64"),
     ("0 -1 0 -99 100 100 100 2 8", "L 6 64", "F 8 18 6 64"),
-    // A slope above the reach: p is 1 below the plane, or 2, and the ways rise by 1, then 2.
+    // Slopes above the reach. On (1,1,5) all stand at power 1, which is the last. On (5,6,7) p is 1
+    // below the plane, or 2, and the ways rise by 1, then 2.
+    ("1 1 5 705 100 100 100 0 1", "L 6 1", "F 1 6 6 1"),
     ("5 6 7 1801 100 100 100 0 8", "L 6 192", "F 0 3 6 0"),
     ("5 6 7 1802 100 100 100 0 8", "L 6 192", "F 0 4 6 0"),
-    // As near to the bound of the known lean: sides (-2,1,0), (0,-1,1) and (2,-2,1), which rise by
-    // -9, -9 and 0. Then one with two level axes and one with one.
+    // Those that lean: the first has the sides (-2,1,0), (0,-1,1) and (2,-2,1), which rise by -9, -9
+    // and 0.
     ("20 31 22 7301 100 100 100 0 5", "L 27 576", "F 0 5 27 0"),
     ("15 7 7 2901 100 100 100 0 3", "L 6 16", "F 0 3 6 0"),
     ("18 35 17 7002 100 100 100 0 4", "L 9 32", "F 0 3 9 0"),
