@@ -4,8 +4,8 @@ use crate::answers::{Pick, Point};
 use crate::call::{Call, OnStack, Walk};
 use crate::chance::Chance;
 use crate::flat;
-use crate::stacks::{asked, block_of, damage, decided_by, on_stack};
-use crate::wedge_lines::{frame, line, reach};
+use crate::stacks::{asked, block_of, decided_by, disturb, on_stack};
+use crate::wedge_lines::{line, reach};
 use second::parts::convex;
 use second::pick::pick;
 use second::session::pick_of;
@@ -126,17 +126,12 @@ pub fn wedge(chance: &mut Chance, _: u64) -> Vec<Call> {
     vec![Call::Wedge(Walk::Firm(answer), asked)]
 }
 
-/// The call may be damaged after the pick.
+/// The call may be another than the pick's.
 pub fn stack(chance: &mut Chance, _: u64) -> Vec<Call> {
     let mut asked = asked(chance);
     let picked = asked.asked_by(pick);
     let answer = handed(chance, flat::pick(picked), asked.start);
-    match chance.below(16) {
-        0 => damage(chance, &mut asked),
-        1 => asked.frame = frame(chance) as i32,
-        2 => asked.reach = reach(chance) as i32,
-        _ => {}
-    }
+    disturb(chance, &mut asked);
     vec![Call::Stack(Walk::Firm(answer), asked)]
 }
 

@@ -171,7 +171,7 @@ const ENDS: [i32; 12] =
     [i32::MIN, i32::MIN + 1, -1, 0, 1, 255, 256, 257, 1 << 16, 1 << 24, i32::MAX - 1, i32::MAX];
 
 /// One number of the call made extreme, or the bytes cut.
-pub fn damage(chance: &mut Chance, asked: &mut OnStack) {
+fn damage(chance: &mut Chance, asked: &mut OnStack) {
     let axis = chance.below(3) as usize;
     match chance.below(6) {
         0 | 1 => asked.sizes[axis] = chance.one_of(&ENDS),
@@ -182,6 +182,16 @@ pub fn damage(chance: &mut Chance, asked: &mut OnStack) {
             let fewer = [keep.saturating_sub(1), 0, chance.below(keep + 1)];
             asked.bytes.truncate(chance.one_of(&fewer) as usize);
         }
+    }
+}
+
+/// Now and then the call is another than the one before it: damaged, in another frame or reach.
+pub fn disturb(chance: &mut Chance, asked: &mut OnStack) {
+    match chance.below(20) {
+        0 => damage(chance, asked),
+        1 => asked.frame = frame(chance) as i32,
+        2 => asked.reach = reach(chance) as i32,
+        _ => {}
     }
 }
 

@@ -23,8 +23,8 @@ pub fn print() {
     check_filled();
     print_planes("Planes on a wedge, box 1024 a side", WEDGE_SIDE);
     print_planes("Planes on a stack, 256 a side", STACK_SIDE);
-    print_footings("Convex parts on a stack, 256 a side", on_part);
-    print_footings("Planes on a wedge, box 1024 a side", on_wedge);
+    print_footings("How firm, convex parts on a stack, 256 a side", on_part);
+    print_footings("How firm, planes on a wedge, box 1024 a side", on_wedge);
 }
 
 /// The greatest of what was found, as squared sines.
