@@ -218,8 +218,8 @@ typedef struct {
 
 /*
  * The known lean: how far the face can lean from the normal of an accepted pick,
- * told by the answer and the reach that it was asked with. Whatever plane the
- * filled voxels lie below, its normal has no more than an acute angle to the
+ * told by the answer and the reach that it was asked with. If the filled voxels
+ * are those below a plane, whatever plane, its normal has an acute angle to the
  * pick's, and the squared sine of that angle is below part / whole. So a wall
  * that reads d along the pick's normal is metal of at least
  * d * sqrt(1 - part / whole). A bound at or above 1 (part >= whole) says nothing.
@@ -259,9 +259,10 @@ typedef struct {
  *
  * The bound holds of every plane that the start and the voxels found filled lie
  * below and the apex does not: on a convex part of each face that the apex is
- * above, whatever stands beyond its edges. So the wall is metal of at least
- * d * sqrt(1 - part / whole) there, and where part >= whole a gauge draws no
- * figure: it is not flat there. part is 3S as above, whole is power*power*(n.n).
+ * above, whatever stands beyond its edges. So a wall that reads d is metal of at
+ * least d * sqrt(1 - part / whole) there. Where part >= whole there is no bound,
+ * and a gauge draws no figure: it may not be flat. part is 3S as above, whole is
+ * power*power*(n.n).
  *
  * On a slope with no part against the frame, no common divisor and sizes that add
  * to at most reach, an accepted pick is firm to the last power, if the voxels to

@@ -8,6 +8,7 @@ use crate::listed::stack_where;
 use crate::parts::{convex, plane_between, Part, Plane, Spot, MOST};
 use crate::pick::pick;
 use crate::point::{cross, dot, plus, signs, times, Point};
+use crate::ready::{walk_from, Handed, Ready};
 use crate::solid::{Solid, Stack, Wedge};
 use crate::walk::Record;
 
@@ -15,6 +16,7 @@ pub fn all() {
     planes();
     planes_of_stacks();
     convex_parts();
+    unchecked_walks();
     slopes_with_room();
 }
 
@@ -48,13 +50,12 @@ fn held_on_plane(plane: &Plane, accepted: Record, reach: i64) {
     assert!(close <= i128::from(bound.part) * height * height, "{plane:?} {accepted:?}");
 }
 
-/// Of every plane that the apex is not below, where the solid is below it all over:
-/// power²·|ν×n|² < 3S·(ν·ν), and 0 < ν·n.
+/// Of every plane that the solid is below all over and the apex is not:
+/// power²·|ν×n|² < 3S·(ν·ν).
 fn held_under<S: Solid>(solid: &S, planes: &[&Plane], accepted: Record, spot: Spot, reach: i64) {
     let footing = firm(solid, Ok(accepted), spot.frame, reach).expect("p and q are as they were");
     for plane in planes {
         assert!(plane.within(accepted.normal, footing.bound), "{plane:?} {accepted:?} {footing:?}");
-        assert!(0 < dot(plane.normal, accepted.normal), "{plane:?} {accepted:?}");
     }
 }
 
@@ -96,23 +97,45 @@ pub fn planes_of_stacks() {
     });
 }
 
-/// Convex parts: the pick's own triangle need not be a face's.
-#[cfg_attr(test, test)]
-pub fn convex_parts() {
-    count("convex parts", 40_000, 10_000, |chance| {
-        let part = convex(chance, 256);
-        let spot = part.touched(chance);
-        let reach = reach(chance);
-        spot.map_or(false, |spot| part_holds(&part, spot, reach))
-    });
+/// A convex part, where it is touched, and a reach.
+fn touched_part(chance: &mut Chance) -> Option<(Part, Spot, i64)> {
+    let part = convex(chance, 256);
+    let spot = part.touched(chance)?;
+    Some((part, spot, reach(chance)))
 }
 
-fn part_holds(part: &Part, spot: Spot, reach: i64) -> bool {
-    accepted(part, spot, reach, |record| {
-        let under: Vec<&Plane> = part.under(record.apex).collect();
-        assert!(!under.is_empty(), "{part:?} {record:?}");
-        held_under(part, &under, record, spot, reach);
-    })
+fn held_on_part(part: &Part, accepted: Record, spot: Spot, reach: i64) {
+    let under: Vec<&Plane> = part.under(accepted.apex).collect();
+    assert!(!under.is_empty(), "{part:?} {accepted:?}");
+    held_under(part, &under, accepted, spot, reach);
+}
+
+/// Convex parts: the pick's own triangle need not be a face's. Also 0 < ν·n.
+#[cfg_attr(test, test)]
+pub fn convex_parts() {
+    let holds = |(part, spot, reach): (Part, Spot, i64)| {
+        accepted(&part, spot, reach, |record| {
+            held_on_part(&part, record, spot, reach);
+            let mut under = part.under(record.apex);
+            assert!(under.all(|plane| 0 < dot(plane.normal, record.normal)), "{part:?} {record:?}");
+        })
+    };
+    count("convex parts", 40_000, 10_000, |chance| touched_part(chance).map_or(false, holds));
+}
+
+/// The firm footing looks for itself: the walk may begin with axes that nobody found level.
+#[cfg_attr(test, test)]
+pub fn unchecked_walks() {
+    count("unchecked walks", 20_000, 5000, |chance| {
+        let level = chance.between(0, 6) as u32;
+        touched_part(chance).map_or(false, |(part, spot, reach)| {
+            let apex = plus(spot.start, signs(spot.frame));
+            let ready = Ready { start: spot.start, handed: Handed { apex, level, looks: 0 } };
+            let walked = walk_from(&part, ready, spot.frame, reach);
+            let faced = part.under(apex).next().is_some();
+            faced && walked.map(|record| held_on_part(&part, record, spot, reach)).is_ok()
+        })
+    });
 }
 
 /// On a slope within the reach a pick with room about p is firm to the last power.
