@@ -1,10 +1,11 @@
 /*
- * Reads a stack of P4 images, picks at a voxel, and prints the face's normal
- * and its unit vector. It picks in two calls, as a panel does that lights its
- * cursor first:
+ * Reads a stack of P4 images, picks at a voxel, and prints the face's normal,
+ * how far the face may lean from it, and its unit vector. It picks in two calls,
+ * as a panel does that lights its cursor first:
  *
  *   pick_stack FILE X Y Z FRAME REACH
  */
+#include <math.h>
 #include <stdio.h>
 #include <stdlib.h>
 
@@ -21,15 +22,25 @@ static int print_refusal(uint32_t number, ulgenzhir_point place)
     return 1;
 }
 
-static int print_pick(ulgenzhir_pick pick)
+/* A gauge draws no figure without a bound. In tenths of a degree, rounded up. */
+static void print_footing(ulgenzhir_firm firm)
 {
-    if (pick.number != 0)
-        return print_refusal(pick.number, pick.place);
+    if (firm.part < firm.whole) {
+        double radians = asin(sqrt((double)firm.part / (double)firm.whole));
+        double tenths = ceil(radians * 1800 / acos(-1));
+        printf("lean below %.1f degrees, firm to %u\n", tenths / 10, firm.power);
+    } else {
+        printf("not flat here, firm to %u\n", firm.power);
+    }
+}
+
+static void print_pick(ulgenzhir_pick pick, ulgenzhir_firm firm)
+{
     ulgenzhir_point n = pick.normal;
     ulgenzhir_lit lit = ulgenzhir_display(n.x, n.y, n.z);
     printf("normal %d %d %d after %u steps and %u looks\n", n.x, n.y, n.z, pick.steps, pick.looks);
+    print_footing(firm);
     printf("display %.15f %.15f %.15f\n", lit.x, lit.y, lit.z);
-    return 0;
 }
 
 /* A panel checks wherever the cursor goes, and walks once it is pressed. */
@@ -41,8 +52,13 @@ static int check_and_walk(int32_t width, int32_t height, int32_t depth, const in
     if (check.number != 0)
         return print_refusal(check.number, check.place);
     printf("cursor lit after %u looks\n", check.looks);
-    return print_pick(ulgenzhir_walk_stack(width, height, depth, rows, sizeof rows, check.ready,
-                                           frame, reach));
+    ulgenzhir_pick pick = ulgenzhir_walk_stack(width, height, depth, rows, sizeof rows,
+                                               check.ready, frame, reach);
+    if (pick.number != 0)
+        return print_refusal(pick.number, pick.place);
+    print_pick(pick, ulgenzhir_firm_stack(width, height, depth, rows, sizeof rows, pick,
+                                          frame, reach));
+    return 0;
 }
 
 int main(int argc, char **argv)

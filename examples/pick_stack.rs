@@ -1,9 +1,10 @@
 //! The same from Rust, in one call: reads a stack of P4 images, picks at a voxel, and prints the
-//! face's normal and its unit vector:
+//! face's normal, how far the face may lean from it, and its unit vector:
 //!
 //!   pick_stack FILE X Y Z FRAME REACH
 
 #[repr(C)]
+#[derive(Clone, Copy)]
 struct Point {
     x: i32,
     y: i32,
@@ -11,6 +12,7 @@ struct Point {
 }
 
 #[repr(C)]
+#[derive(Clone, Copy)]
 struct Pick {
     number: u32,
     place: Point,
@@ -19,6 +21,16 @@ struct Pick {
     normal: Point,
     vectors: [Point; 3],
     apex: Point,
+}
+
+#[repr(C)]
+struct Firm {
+    number: u32,
+    place: Point,
+    power: u32,
+    looks: u32,
+    part: u64,
+    whole: u64,
 }
 
 #[repr(C)]
@@ -51,6 +63,16 @@ extern "C" {
         frame: i32,
         reach: i32,
     ) -> Pick;
+    fn ulgenzhir_firm_stack(
+        width: i32,
+        height: i32,
+        depth: i32,
+        bytes: *const u8,
+        len: usize,
+        pick: Pick,
+        frame: i32,
+        reach: i32,
+    ) -> Firm;
     fn ulgenzhir_read_p4(input: *const u8, len: usize, rows: *mut u8, rows_len: usize) -> Read;
     fn ulgenzhir_display(nx: i32, ny: i32, nz: i32) -> Lit;
 }
@@ -63,13 +85,27 @@ fn read_p4(input: &[u8], rows: &mut [u8]) -> Read {
     unsafe { ulgenzhir_read_p4(input.as_ptr(), input.len(), rows.as_mut_ptr(), rows.len()) }
 }
 
-fn pick_stack(read: &Read, rows: &[u8], [x, y, z, frame, reach]: [i32; 5]) -> Pick {
+/// The pick, and how firm it is.
+fn pick_stack(read: &Read, rows: &[u8], [x, y, z, frame, reach]: [i32; 5]) -> (Pick, Firm) {
     let [width, height, depth] = [read.width, read.height, read.depth].map(|size| size as i32);
     let (bytes, len) = (rows.as_ptr(), rows.len());
-    unsafe { ulgenzhir_pick_stack(width, height, depth, bytes, len, x, y, z, frame, reach) }
+    unsafe {
+        let pick = ulgenzhir_pick_stack(width, height, depth, bytes, len, x, y, z, frame, reach);
+        (pick, ulgenzhir_firm_stack(width, height, depth, bytes, len, pick, frame, reach))
+    }
 }
 
-fn print_pick(pick: Pick) -> i32 {
+/// A gauge draws no figure without a bound. In tenths of a degree, rounded up.
+fn print_footing(Firm { power, part, whole, .. }: Firm) {
+    if part < whole {
+        let degrees = (part as f64 / whole as f64).sqrt().asin().to_degrees();
+        println!("lean below {:.1} degrees, firm to {power}", (degrees * 10.0).ceil() / 10.0);
+    } else {
+        println!("not flat here, firm to {power}");
+    }
+}
+
+fn print_pick((pick, firm): (Pick, Firm)) -> i32 {
     let Pick { number, place, steps, looks, normal, .. } = pick;
     if number != 0 {
         println!("refused {number} at {} {} {}", place.x, place.y, place.z);
@@ -78,6 +114,7 @@ fn print_pick(pick: Pick) -> i32 {
     let Point { x, y, z } = normal;
     let lit = unsafe { ulgenzhir_display(x, y, z) };
     println!("normal {x} {y} {z} after {steps} steps and {looks} looks");
+    print_footing(firm);
     println!("display {:.15} {:.15} {:.15}", lit.x, lit.y, lit.z);
     0
 }

@@ -52,7 +52,10 @@
  *   26  a byte follows image 256                          its offset
  *   27  the lent buffer is too short                      bytes needed
  * Of writing a stack: 3 (value 0), then 27. Of the display normal: 30, all
- * three are zero or one is outside -1023 to 1023.
+ * three are zero or one is outside -1023 to 1023. Of the known lean: 35, the
+ * pick is refused, reach is outside 1 to 256, a part of the normal is beyond 256
+ * or one of m0, m1, m2 beyond 2046 in size, or the normal is 0 0 0. Of a firm
+ * footing, in this order: 1, 2, 3, 35 (place 0 0 0), 4, 5, 6.
  */
 #ifndef ULGENZHIR_H
 #define ULGENZHIR_H
@@ -204,6 +207,78 @@ ulgenzhir_touch ulgenzhir_touch_stack(int32_t width, int32_t height, int32_t dep
                                       const uint8_t *bytes, size_t len,
                                       int32_t px, int32_t py, int32_t pz,
                                       int32_t frame, int32_t reach);
+
+/*
+ * number 0: the squared sine of the lean is below part / whole. 35: both are 0.
+ */
+typedef struct {
+    uint32_t number;
+    uint64_t part, whole;
+} ulgenzhir_lean;
+
+/*
+ * The known lean: how far the face can lean from the normal of an accepted pick,
+ * told by the answer and the reach that it was asked with. If the filled voxels
+ * are those below a plane, whatever plane, its normal has an acute angle to the
+ * pick's, and the squared sine of that angle is below part / whole. So a wall
+ * that reads d along the pick's normal is metal of at least
+ * d * sqrt(1 - part / whole). A bound at or above 1 (part >= whole) says nothing.
+ *
+ * part is 3S and whole is L*L*(n.n), with n the normal, L the last power (the
+ * first of 1, 2, 4, .. that is at least reach) and S the greatest squared length
+ * of a difference of two of m0, m1, m2 that are not level (0 if there is none),
+ * plus 1 for each level axis. An axis is level exactly if the normal's part is 0.
+ *
+ * This is of planes: where the face ends, take the firm footing. And it is of
+ * picks, a check and its walk in a row among them, not of a walk from a ready
+ * start that nobody checked.
+ */
+ulgenzhir_lean ulgenzhir_known_lean(ulgenzhir_pick pick, int32_t reach);
+
+/*
+ * number 0: firm to power (0: not at all), place 0 0 0; the squared sine of the
+ * lean is below part / whole, and whole is 0 for power 0. Refused: place and
+ * looks are as a pick's, power, part and whole are 0.
+ */
+typedef struct {
+    uint32_t number;
+    ulgenzhir_point place;
+    uint32_t power, looks;
+    uint64_t part, whole;
+} ulgenzhir_firm;
+
+/*
+ * The firm footing: the same bound where the face ends. It looks for itself, so
+ * the answer may also be that of a walk from a ready start that nobody checked:
+ * at the start (the apex less the frame's signs, each part held to 32 bits) and
+ * at the apex, then from the start at the powers 1, 2, 4, .. up to the last,
+ * along each difference of two of m0, m1, m2 that are not level and along each
+ * level axis, all of them both ways. power is the last at which all were filled,
+ * 0 if there is none; a voxel that is not filled ends the search, and so does
+ * one outside the box, which is no look.
+ *
+ * The bound holds of every plane that the start and the voxels found filled lie
+ * below and the apex does not: on a convex part of each face that the apex is
+ * above, whatever stands beyond its edges. So a wall that reads d is metal of at
+ * least d * sqrt(1 - part / whole) there. Where part >= whole there is no bound,
+ * and a gauge draws no figure: it may not be flat. part is 3S as above, whole is
+ * power*power*(n.n).
+ *
+ * On a slope with no part against the frame, no common divisor and sizes that add
+ * to at most reach, an accepted pick is firm to the last power, if the voxels to
+ * be looked at lie in the box.
+ */
+ulgenzhir_firm ulgenzhir_firm_wedge(int32_t a, int32_t b, int32_t c, int32_t h,
+                                    ulgenzhir_pick pick,
+                                    int32_t frame, int32_t reach);
+
+/*
+ * The same on a stack.
+ */
+ulgenzhir_firm ulgenzhir_firm_stack(int32_t width, int32_t height, int32_t depth,
+                                    const uint8_t *bytes, size_t len,
+                                    ulgenzhir_pick pick,
+                                    int32_t frame, int32_t reach);
 
 /*
  * number 0: sizes set, value 0. Refused: value is the number returned, sizes 0.

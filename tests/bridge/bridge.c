@@ -136,6 +136,23 @@ static void put_check(ulgenzhir_check answer)
     put_ready(answer.ready);
 }
 
+static void put_lean(ulgenzhir_lean answer)
+{
+    put(answer.number);
+    put_long(answer.part);
+    put_long(answer.whole);
+}
+
+static void put_firm(ulgenzhir_firm answer)
+{
+    put(answer.number);
+    put_point(answer.place);
+    put(answer.power);
+    put(answer.looks);
+    put_long(answer.part);
+    put_long(answer.whole);
+}
+
 static void take_ints(int32_t *ints, int count)
 {
     for (int i = 0; i < count; i++)
@@ -149,13 +166,33 @@ static ulgenzhir_pick refused(ulgenzhir_check check)
     return answer;
 }
 
+static ulgenzhir_point take_point(void)
+{
+    int32_t n[3];
+    take_ints(n, 3);
+    return (ulgenzhir_point){ n[0], n[1], n[2] };
+}
+
+/* As put_pick puts it. */
+static ulgenzhir_pick take_pick(void)
+{
+    ulgenzhir_pick pick = { .number = take() };
+    pick.place = take_point();
+    pick.steps = take();
+    pick.looks = take();
+    pick.normal = take_point();
+    pick.m0 = take_point();
+    pick.m1 = take_point();
+    pick.m2 = take_point();
+    pick.apex = take_point();
+    return pick;
+}
+
 /* The start is among the numbers that came before. */
 static ulgenzhir_ready take_ready(const int32_t *start)
 {
     ulgenzhir_ready ready = { .start = { start[0], start[1], start[2] } };
-    int32_t apex[3];
-    take_ints(apex, 3);
-    ready.apex = (ulgenzhir_point){ apex[0], apex[1], apex[2] };
+    ready.apex = take_point();
     ready.level = take();
     ready.looks = take();
     return ready;
@@ -180,7 +217,7 @@ static void stack_in_a_row(const int32_t *n, uint32_t len)
         n[0], n[1], n[2], given, len, check.ready, n[6], n[7]));
 }
 
-/* A pick, a touch, a check with its walk, or a walk from a ready start. */
+/* A pick, a touch, a check with its walk, a walk from a ready start, or an answer's firm footing. */
 static void on_wedge(void)
 {
     int32_t n[9];
@@ -198,6 +235,9 @@ static void on_wedge(void)
     case 'f':
         put_pick(ulgenzhir_walk_wedge(n[0], n[1], n[2], n[3], take_ready(n + 4), n[7], n[8]));
         return;
+    case 'u':
+        put_firm(ulgenzhir_firm_wedge(n[0], n[1], n[2], n[3], take_pick(), n[7], n[8]));
+        return;
     }
     fail("no such walk");
 }
@@ -208,8 +248,11 @@ static void on_stack(void)
     take_ints(n, 8);
     uint32_t walk = take();
     ulgenzhir_ready ready = { 0 };
+    ulgenzhir_pick handed = { 0 };
     if (walk == 'f')
         ready = take_ready(n + 3);
+    if (walk == 'u')
+        handed = take_pick();
     const uint8_t *sent = next;
     uint32_t len = take_bytes(given);
     switch (walk) {
@@ -226,6 +269,9 @@ static void on_stack(void)
         break;
     case 'f':
         put_pick(ulgenzhir_walk_stack(n[0], n[1], n[2], given, len, ready, n[6], n[7]));
+        break;
+    case 'u':
+        put_firm(ulgenzhir_firm_stack(n[0], n[1], n[2], given, len, handed, n[6], n[7]));
         break;
     default:
         fail("no such walk");
@@ -279,6 +325,12 @@ static void display(void)
     put_bytes(&answer.z, 4);
 }
 
+static void known_lean(void)
+{
+    int32_t reach = (int32_t)take();
+    put_lean(ulgenzhir_known_lean(take_pick(), reach));
+}
+
 static void call(void)
 {
     switch (take()) {
@@ -287,6 +339,7 @@ static void call(void)
     case 'r': read_p4(); return;
     case 'o': write_p4(); return;
     case 'd': display(); return;
+    case 'l': known_lean(); return;
     }
     fail("no such call");
 }

@@ -1,8 +1,10 @@
 //! One call of an entry point: how it is sent, what the second program answers, and what came back.
 
-use crate::answers::{Check, Lit, Pick, Point, Read, Ready, Touch, Written};
+use crate::answers::{Check, Firm, Lean, Lit, Pick, Point, Read, Ready, Touch, Written};
 use crate::chance::Chance;
 use crate::flat;
+use second::firm::firm;
+use second::lean::known_lean;
 use second::p4;
 use second::pick::pick;
 use second::ready::{check, walk_from, Handed};
@@ -40,6 +42,8 @@ pub enum Walk {
     InARow,
     /// From a ready start: the start asked about, and this.
     From(Handed),
+    /// No walk: how firm this answer's footing is, wherever the start asked about lies.
+    Firm(Pick),
 }
 
 impl Walk {
@@ -56,6 +60,9 @@ impl Walk {
                 let ready = second::ready::Ready { start, handed };
                 Answer::Pick(flat::pick(walk_from(solid, ready, frame, reach)))
             }
+            Walk::Firm(answer) => {
+                Answer::Firm(flat::firm(firm(solid, flat::handed(answer), frame, reach)))
+            }
         }
     }
 
@@ -66,6 +73,7 @@ impl Walk {
             Walk::Touch => b't',
             Walk::InARow => b'c',
             Walk::From(_) => b'f',
+            Walk::Firm(_) => b'u',
         }
     }
 
@@ -75,6 +83,7 @@ impl Walk {
             Walk::Touch => "touch".into(),
             Walk::InARow => "check and walk".into(),
             Walk::From(handed) => format!("walk from {handed:?}"),
+            Walk::Firm(answer) => format!("footing of {answer:?}"),
         }
     }
 }
@@ -114,6 +123,8 @@ pub enum Call {
         lent: Lent,
     },
     Display([i32; 3]),
+    /// Of an answer, with the reach.
+    Lean(Pick, i32),
 }
 
 /// An answer with the whole of the lent buffer and what surrounds it.
@@ -127,6 +138,8 @@ pub enum Answer {
     Written(Written, Vec<u8>),
     /// The floats' bits, so that -0 is not 0.
     Lit(u32, [u32; 3]),
+    Lean(Lean),
+    Firm(Firm),
 }
 
 impl Answer {
@@ -137,12 +150,14 @@ impl Answer {
             Answer::Read(read, _) => read.number,
             Answer::Written(written, _) => written.number,
             Answer::Lit(number, _) => *number,
+            Answer::Lean(lean) => lean.number,
+            Answer::Firm(firm) => firm.number,
         }
     }
 
     /// What is counted beside the number: how many axes are level in an accepted pick (the parts of
-    /// its normal that are 0) or in a ready start, an accepted touch, and the axis of a corner that
-    /// is not filled.
+    /// its normal that are 0) or in a ready start, an accepted touch, the axis of a corner that is
+    /// not filled, and whether there is a bound, or no footing at all.
     pub fn mark(&self) -> Option<&'static str> {
         match self {
             Answer::Pick(Pick { number: 0, normal: Point { x, y, z }, .. }) => {
@@ -156,6 +171,11 @@ impl Answer {
             // The third look, after p and q, is at axis 0's.
             Answer::Touch(Touch { number: 11, looks, .. }) => {
                 Some(["11x", "11y", "11z"][*looks as usize - 3])
+            }
+            Answer::Firm(Firm { number: 0, power: 0, .. }) => Some("loose"),
+            Answer::Firm(Firm { number: 0, part, whole, .. })
+            | Answer::Lean(Lean { number: 0, part, whole }) => {
+                Some(if part < whole { "bound" } else { "unbound" })
             }
             _ => None,
         }
@@ -176,6 +196,8 @@ impl Answer {
             (Answer::Lit(number, bits), _) => {
                 format!("{number} {:?}", bits.map(f32::from_bits))
             }
+            (Answer::Lean(lean), _) => format!("{lean:?}"),
+            (Answer::Firm(firm), _) => format!("{firm:?}"),
             _ => "an answer of another kind".into(),
         }
     }
@@ -199,6 +221,23 @@ impl Call {
             Call::Wedge(_, line) => Call::Wedge(walk, line),
             Call::Stack(_, on) => Call::Stack(walk, on),
             other => other,
+        }
+    }
+
+    /// The reach that a walk is asked with.
+    pub fn reach(&self) -> Option<i32> {
+        match self {
+            Call::Wedge(_, line) => Some(line[8]),
+            Call::Stack(_, on) => Some(on.reach),
+            _ => None,
+        }
+    }
+
+    /// Whether it asks for a footing that this answer has, but not to the last power.
+    pub fn is_firm_partly(&self, answer: &Answer) -> bool {
+        match (answer, self.reach()) {
+            (Answer::Firm(firm), Some(reach)) => firm.power > 0 && (firm.power as i32) < reach,
+            _ => false,
         }
     }
 
@@ -232,13 +271,16 @@ impl Call {
                 let Lit { number, x, y, z } = flat::lit(normal.map(i64::from));
                 Answer::Lit(number, [x, y, z].map(f32::to_bits))
             }
+            Call::Lean(answer, reach) => {
+                Answer::Lean(flat::lean(known_lean(flat::handed(*answer), (*reach).into())))
+            }
         }
     }
 
     /// About how many bytes it takes to hold.
     pub fn size(&self) -> usize {
         100 + match self {
-            Call::Wedge(..) | Call::Display(_) => 0,
+            Call::Wedge(..) | Call::Display(_) | Call::Lean(..) => 0,
             Call::Stack(_, on) => on.bytes.len(),
             Call::Read { text, lent, .. } => text.len() + lent.whole.len(),
             Call::Write { bytes, lent, .. } => bytes.len() + lent.whole.len(),
@@ -269,6 +311,10 @@ impl Call {
                 batch.bytes(&lent.whole);
             }
             Call::Display(normal) => batch.ints(b'd', normal),
+            Call::Lean(answer, reach) => {
+                batch.ints(b'l', &[*reach]);
+                batch.pick(*answer);
+            }
         }
     }
 
@@ -289,6 +335,11 @@ impl Call {
             Call::Display(_) => {
                 Answer::Lit(reply.take(), [reply.take(), reply.take(), reply.take()])
             }
+            Call::Lean(..) => Answer::Lean(Lean {
+                number: reply.take(),
+                part: reply.take_long(),
+                whole: reply.take_long(),
+            }),
         }
     }
 
@@ -313,6 +364,7 @@ impl Call {
                 format!("write {sizes:?} of {len} bytes into {}: {}", lent.len, front(bytes))
             }
             Call::Display(normal) => format!("display {normal:?}"),
+            Call::Lean(answer, reach) => format!("known lean of {answer:?}, {reach}"),
         }
     }
 }
@@ -340,6 +392,23 @@ impl Batch {
             self.put(level);
             self.put(looks);
         }
+        if let Walk::Firm(answer) = walk {
+            self.pick(answer);
+        }
+    }
+
+    /// In the order of the header's struct.
+    fn pick(&mut self, answer: Pick) {
+        let Pick { number, place, steps, looks, normal, m0, m1, m2, apex } = answer;
+        self.put(number);
+        self.point(place);
+        self.put(steps);
+        self.put(looks);
+        [normal, m0, m1, m2, apex].iter().for_each(|point| self.point(*point));
+    }
+
+    fn point(&mut self, Point { x, y, z }: Point) {
+        [x, y, z].iter().for_each(|&part| self.put(part as u32));
     }
 
     /// Runs that are not all zero, 64 bytes at a time.
@@ -396,6 +465,7 @@ impl Reply {
             Walk::Pick | Walk::From(_) => Answer::Pick(self.pick()),
             Walk::Touch => Answer::Touch(Touch::of(self.take(), self.pick())),
             Walk::InARow => Answer::InARow(self.check(), self.pick()),
+            Walk::Firm(_) => Answer::Firm(self.firm()),
         }
     }
 
@@ -407,6 +477,17 @@ impl Reply {
     fn ready(&mut self) -> Ready {
         let (start, apex) = (self.point(), self.point());
         Ready { start, apex, level: self.take(), looks: self.take() }
+    }
+
+    fn firm(&mut self) -> Firm {
+        Firm {
+            number: self.take(),
+            place: self.point(),
+            power: self.take(),
+            looks: self.take(),
+            part: self.take_long(),
+            whole: self.take_long(),
+        }
     }
 
     /// In the order of the header's struct.

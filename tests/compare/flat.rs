@@ -1,12 +1,14 @@
 //! The second program's answers in the header's structs.
 
 use crate::answers;
+use second::firm::{Firm, Footing};
+use second::lean::{Bound, Lean};
 use second::pick::Pick;
 use second::point::Point;
 use second::ready::{Check, Handed, Ready};
 use second::solid::Sizes;
 use second::touch::{Guess, Touch};
-use second::walk::{Record, Refusal};
+use second::walk::{at_once, Record, Refusal};
 use second::{display, p4};
 
 fn point(place: Point) -> answers::Point {
@@ -32,6 +34,17 @@ pub fn pick(answer: Pick) -> answers::Pick {
     }
 }
 
+/// A struct that a host hands back, of which nothing but the number is asked once it is refused.
+pub fn handed(answer: answers::Pick) -> Pick {
+    let answers::Pick { number, place, steps, looks, normal, m0, m1, m2, apex } = answer;
+    let point = |answers::Point { x, y, z }| [x, y, z].map(i64::from);
+    if number != 0 {
+        return Err(at_once(number, point(place)));
+    }
+    let vectors = [m0, m1, m2].map(point);
+    Ok(Record { normal: point(normal), vectors, apex: point(apex), steps, looks })
+}
+
 pub fn touch(answer: Touch) -> answers::Touch {
     let guess = u32::from(answer.is_ok());
     answers::Touch::of(guess, pick(answer.map(|Guess(record)| record)))
@@ -47,6 +60,24 @@ pub fn check(answer: Check) -> answers::Check {
         // No step is made before the rounds.
         Err(Refusal { number, place, looks, .. }) => {
             answers::Check { number, place: point(place), looks, ..Default::default() }
+        }
+    }
+}
+
+pub fn lean(answer: Lean) -> answers::Lean {
+    match answer {
+        Ok(Bound { part, whole }) => answers::Lean { number: 0, part, whole },
+        Err(number) => answers::Lean { number, ..Default::default() },
+    }
+}
+
+pub fn firm(answer: Firm) -> answers::Firm {
+    match answer {
+        Ok(Footing { power, looks, bound: Bound { part, whole } }) => {
+            answers::Firm { power: power as u32, looks, part, whole, ..Default::default() }
+        }
+        Err(Refusal { number, place, looks, .. }) => {
+            answers::Firm { number, place: point(place), looks, ..Default::default() }
         }
     }
 }

@@ -1,12 +1,13 @@
-//! The listed cases as calls; each pick, touch and check is asked as all three. (That the second
-//! program gives the listed values is checked first.)
+//! The listed cases as calls; each pick, touch and check is asked as all three, and how firm the
+//! pick is. (That the second program gives the listed values is checked first.)
 
-use crate::call::{Call, Lent, Walk};
+use crate::call::{Answer, Call, Lent, Walk};
 use crate::chance::Chance;
+use crate::flat;
 use crate::stacks::on_stack;
 use second::listed::{
-    few_stack, sum_above_reach_stack, CHECKS, DISPLAYS, LINES, READS, STACKS, STACK_WALKS, TOUCHES,
-    WALKS, WRITES,
+    few_stack, sum_above_reach_stack, CHECKS, DISPLAYS, FIRMS, FOOTINGS, LEANS, LINES, READS,
+    STACKS, STACK_WALKS, TOUCHES, WALKS, WRITES,
 };
 use second::session::numbers;
 
@@ -16,6 +17,9 @@ pub fn calls(chance: &mut Chance, _: u64) -> Vec<Call> {
     for walk in [Walk::Pick, Walk::Touch, Walk::InARow] {
         calls.extend(picks.iter().cloned().map(|call| call.asking(walk)));
     }
+    calls.extend(picks.into_iter().flat_map(footings));
+    calls.extend(leans());
+    calls.extend(firms());
     calls.extend(reads(chance));
     calls.extend(writes(chance));
     calls.extend(DISPLAYS.iter().map(|(n, _)| Call::Display(n.map(|part| part as i32))));
@@ -25,7 +29,28 @@ pub fn calls(chance: &mut Chance, _: u64) -> Vec<Call> {
 /// Those that have the form of a line; the others are in the sessions.
 fn lines() -> Vec<Call> {
     let inputs = LINES.iter().chain(TOUCHES).chain(CHECKS).map(|(input, _)| input);
+    let inputs = inputs.chain(FOOTINGS.iter().map(|(input, _, _)| input));
     inputs.filter_map(|input| line(Walk::Pick, input)).collect()
+}
+
+/// The known lean and the firm footing of a pick's answer.
+fn footings(pick: Call) -> Vec<Call> {
+    match (pick.second(), pick.reach()) {
+        (Answer::Pick(answer), Some(reach)) => {
+            vec![Call::Lean(answer, reach), pick.asking(Walk::Firm(answer))]
+        }
+        _ => Vec::new(),
+    }
+}
+
+fn leans() -> Vec<Call> {
+    let lean = |&(answer, reach, _): &(_, i64, _)| Call::Lean(flat::pick(answer), reach as i32);
+    LEANS.iter().map(lean).collect()
+}
+
+fn firms() -> Vec<Call> {
+    let firm = |&(input, answer, _): &(_, _, _)| line(Walk::Firm(flat::pick(answer)), input);
+    FIRMS.iter().filter_map(firm).collect()
 }
 
 fn line(walk: Walk, input: &str) -> Option<Call> {

@@ -12,10 +12,9 @@
 mod answers;
 mod bridge;
 mod call;
-#[path = "../shared/chance.rs"]
-mod chance;
 mod displays;
 mod flat;
+mod footings;
 mod listed;
 mod reads;
 #[path = "../shared/session_texts.rs"]
@@ -31,7 +30,7 @@ mod writes;
 
 use bridge::Bridge;
 use call::{Answer, Batch, Call, Reply, Walk};
-use chance::Chance;
+use second::chance::{self, Chance};
 use std::process::ExitCode;
 use tally::Tally;
 use wedges::SMALL_NORMALS;
@@ -64,7 +63,7 @@ const KINDS: &[Kind] = &[
         "listed",
         1,
         Calls(listed::calls),
-        "0 guess 1 2 3 4 5 6 7 8 9 10 11 13 21 22 23 24 25 27 30",
+        "0 guess 1 2 3 4 5 6 7 8 9 10 11 13 21 22 23 24 25 27 30 35 bound unbound loose partly",
     ),
     kind("wedge_heights", SMALL_NORMALS, Walks(Pick, wedges::heights), "0 4 8 level1 level2"),
     kind("wedge", 600_000, Walks(Pick, wedges::any), "0 1 2 3 4 5 6 7 8 9 10 level1 level2"),
@@ -81,6 +80,21 @@ const KINDS: &[Kind] = &[
     kind("walk_wedge", 150_000, Calls(walks::wedge), "0 1 2 3 4 8 9 10 13 level1 level2"),
     kind("walk_stack", 8_000, Calls(walks::stack), "0 1 2 3 4 8 9 10 13 level1 level2"),
     kind("walk_unforeseen", 15_000, Calls(walks::unforeseen), "0 8 9 10 13 level1 level2"),
+    kind("lean", 200_000, Calls(footings::lean), "0 35 bound unbound"),
+    kind(
+        "firm_wedge",
+        150_000,
+        Calls(footings::wedge),
+        "0 1 2 3 4 5 6 35 bound unbound loose partly",
+    ),
+    kind(
+        "firm_stack",
+        12_000,
+        Calls(footings::stack),
+        "0 1 2 3 4 5 6 35 bound unbound loose partly",
+    ),
+    kind("firm_unforeseen", 15_000, Calls(footings::unforeseen), "0 35 bound unbound loose partly"),
+    kind("firm_part", 150, Calls(footings::part), "0 35 bound unbound loose partly"),
     kind("read", 300_000, Calls(reads::any), "0 21 22 23 24 25 27 touching"),
     kind("read_header", 200, Calls(reads::headers), "0 21 22 23 24 25 27 touching"),
     kind("read_many", 600, Calls(reads::many), "0 21 24 26 27"),

@@ -5,7 +5,7 @@ use crate::chance::Chance;
 use crate::wedge_lines::{frame, height, normal_in_frame, reach};
 use second::point::{dot, lay, minus, plus, signs, times, Point, UNITS};
 use second::solid::{Sizes, Solid};
-use std::cell::RefCell;
+use std::cell::{Cell, RefCell};
 use std::collections::HashMap;
 
 fn side(chance: &mut Chance, most: i64) -> i64 {
@@ -68,6 +68,11 @@ impl Block {
             set(&mut self.bytes, self.sizes, point, filled);
         }
     }
+}
+
+/// The bytes of a stack with this filled.
+pub fn block_of(chance: &mut Chance, sides: Point, filled: impl Fn(Point) -> bool) -> Vec<u8> {
+    Block::of(chance, sides, filled).bytes
 }
 
 fn set(bytes: &mut [u8], sizes: Sizes, point: Point, filled: bool) {
@@ -166,7 +171,7 @@ const ENDS: [i32; 12] =
     [i32::MIN, i32::MIN + 1, -1, 0, 1, 255, 256, 257, 1 << 16, 1 << 24, i32::MAX - 1, i32::MAX];
 
 /// One number of the call made extreme, or the bytes cut.
-pub fn damage(chance: &mut Chance, asked: &mut OnStack) {
+fn damage(chance: &mut Chance, asked: &mut OnStack) {
     let axis = chance.below(3) as usize;
     match chance.below(6) {
         0 | 1 => asked.sizes[axis] = chance.one_of(&ENDS),
@@ -177,6 +182,16 @@ pub fn damage(chance: &mut Chance, asked: &mut OnStack) {
             let fewer = [keep.saturating_sub(1), 0, chance.below(keep + 1)];
             asked.bytes.truncate(chance.one_of(&fewer) as usize);
         }
+    }
+}
+
+/// Now and then the call is another than the one before it: damaged, in another frame or reach.
+pub fn disturb(chance: &mut Chance, asked: &mut OnStack) {
+    match chance.below(20) {
+        0 => damage(chance, asked),
+        1 => asked.frame = frame(chance) as i32,
+        2 => asked.reach = reach(chance) as i32,
+        _ => {}
     }
 }
 
@@ -213,14 +228,14 @@ pub fn on_stack(sides: Point, bytes: Vec<u8>, start: Point, frame: i64, reach: i
 
 /// A solid whose voxels are decided by chance only when the second program looks at them, so that
 /// its walk goes on for long and meets every kind of round.
-struct Unforeseen {
+pub struct Unforeseen {
     sides: Point,
-    start: Point,
-    apex: Point,
+    pub start: Point,
+    pub apex: Point,
     level: [bool; 3],
     chance: RefCell<Chance>,
-    /// How many in a hundred are filled.
-    density: u64,
+    /// How many in a hundred are filled, from now on.
+    pub density: Cell<u64>,
     decided: RefCell<HashMap<Point, bool>>,
 }
 
@@ -233,7 +248,7 @@ impl Unforeseen {
         match (0..3).find(|&axis| along(axis)) {
             Some(axis) if self.level[axis] => 1,
             Some(_) => 90,
-            None => self.density,
+            None => self.density.get(),
         }
     }
 }
@@ -258,11 +273,15 @@ impl Solid for Unforeseen {
 }
 
 pub fn unforeseen(walk: Walk, chance: &mut Chance, _: u64) -> Vec<Call> {
-    decided_by(chance, |_, _| walk)
+    decided_by(chance, |_, _, _, _| walk)
 }
 
-/// A stack decided as the second program's walk goes on, and that walk on it; which one may go by q.
-pub fn decided_by(chance: &mut Chance, walk: impl FnOnce(&mut Chance, Point) -> Walk) -> Vec<Call> {
+/// A stack decided as the second program's walk goes on, and that walk on it; which one may go by
+/// q, or by what else was asked of the solid before, in this frame and reach.
+pub fn decided_by(
+    chance: &mut Chance,
+    walk: impl FnOnce(&mut Chance, &Unforeseen, i64, i64) -> Walk,
+) -> Vec<Call> {
     let large = if chance.percent(15) { 256 } else { 100 };
     let side = chance.one_of(&[24, 48, 64, large]);
     let sides = [0, 1, 2].map(|_| side - chance.between(0, 7));
@@ -276,10 +295,10 @@ pub fn decided_by(chance: &mut Chance, walk: impl FnOnce(&mut Chance, Point) -> 
         apex,
         level: level_axes(chance),
         chance: RefCell::new(Chance::of(chance.bits(), "decided", 0)),
-        density: chance.one_of(&[5, 15, 30, 50, 70, 90]),
+        density: Cell::new(chance.one_of(&[5, 15, 30, 50, 70, 90])),
         decided: RefCell::default(),
     };
-    let walk = walk(chance, apex);
+    let walk = walk(chance, &solid, frame, reach);
     walk.second(&solid, start, frame, reach);
     let [width, height, depth] = sides;
     let sizes = Sizes { width, height, depth };

@@ -11,12 +11,16 @@ pub struct Tally {
 }
 
 impl Tally {
-    /// By its number and its mark, and an accepted read by a comment that touches.
+    /// By its number and its mark, an accepted read by a comment that touches, and a footing by being
+    /// firm partly.
     pub fn call(&mut self, call: &Call, answer: &Answer) {
         self.calls += 1;
         self.note(&answer.number().to_string(), 1);
         if answer.number() == 0 && call.has_touching_comment() {
             self.note("touching", 1);
+        }
+        if call.is_firm_partly(answer) {
+            self.note("partly", 1);
         }
         if let Some(mark) = answer.mark() {
             self.note(mark, 1);

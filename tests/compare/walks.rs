@@ -2,8 +2,8 @@
 
 use crate::call::{Call, Walk};
 use crate::chance::Chance;
-use crate::stacks::{asked, damage, decided_by};
-use crate::wedge_lines::{frame, line, reach};
+use crate::stacks::{asked, decided_by, disturb};
+use crate::wedge_lines::line;
 use second::pick::powers;
 use second::point::{plus, signs, Point};
 use second::ready::{check, Check, Handed};
@@ -82,19 +82,14 @@ pub fn stack(chance: &mut Chance, _: u64) -> Vec<Call> {
     let mut asked = asked(chance);
     let apex = asked.asked_by(|_, start, frame, _| plus(start, signs(frame)));
     let handed = changed(chance, checked(asked.asked_by(check), apex), asked.reach.into());
-    match chance.below(20) {
-        0 => damage(chance, &mut asked),
-        1 => asked.frame = frame(chance) as i32,
-        2 => asked.reach = reach(chance) as i32,
-        _ => {}
-    }
+    disturb(chance, &mut asked);
     vec![Call::Stack(Walk::From(handed), asked)]
 }
 
 /// With looks that every reach allows, so that it walks.
 pub fn unforeseen(chance: &mut Chance, _: u64) -> Vec<Call> {
-    decided_by(chance, |chance, apex| {
-        let apex = plus(apex, [0, 1, 2].map(|_| chance.between(-3, 3)));
+    decided_by(chance, |chance, solid, _, _| {
+        let apex = plus(solid.apex, [0, 1, 2].map(|_| chance.between(-3, 3)));
         Walk::From(Handed { apex, level: level(chance), looks: chance.between(0, 8) as u32 })
     })
 }

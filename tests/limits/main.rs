@@ -1,5 +1,6 @@
-//! Measures with the second program how the reach and the box decide refusal 8 ("edge"): how many
-//! normals can be accepted anywhere. Prints the tables of docs/LIMITS.md.
+//! Prints the tables of docs/LIMITS.md, measured with the second program: how far accepted normals
+//! lean (`leans.rs`), and how the reach and the box decide refusal 8 ("edge"), that is, how many
+//! normals can be accepted anywhere.
 //!
 //! All normals have no part below 0 and no common divisor (frame 0; the other frames are its
 //! mirror images). They are counted by how many axes are level. Only height 0 of q above the plane
@@ -7,6 +8,7 @@
 //! at all powers whatever the height, so any other height looks at those points and more. For the
 //! small reaches that is checked by walking every height.
 
+mod leans;
 #[path = "../shared/roomy.rs"]
 mod roomy;
 
@@ -23,6 +25,7 @@ const STACK_OFFERS: usize = 4;
 const EVERY_HEIGHT_TO: i64 = 32;
 
 fn main() {
+    leans::print();
     let [wedge, stack] = [WEDGE_SIDE, STACK_SIDE]
         .map(|side| [0, 1, 2].map(|level| REACHES.map(|reach| measured(reach, side, level))));
     print_accepted("Wedge, box 1024 a side", &wedge[0]);

@@ -7,14 +7,12 @@
 
 #![allow(dead_code)]
 
-#[path = "../shared/chance.rs"]
-mod chance;
 #[path = "../shared/session_texts.rs"]
 mod session_texts;
 #[path = "../shared/wedge_lines.rs"]
 mod wedge_lines;
 
-use chance::Chance;
+use second::chance::{self, Chance};
 use second::listed::LINES;
 use second::session::session;
 

@@ -5,8 +5,6 @@
 
 #[path = "../shared/answers.rs"]
 mod answers;
-#[path = "../shared/chance.rs"]
-mod chance;
 mod growth;
 #[cfg(target_arch = "x86_64")]
 mod library;
@@ -20,7 +18,7 @@ mod tuned;
 mod wedge_lines;
 mod worst;
 
-use chance::Chance;
+use second::chance::{self, Chance};
 use second::listed::slope_stack;
 use second::point::{dot, plus, signs};
 use second::session::{pick_of, touch_of};

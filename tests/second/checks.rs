@@ -1,14 +1,17 @@
 //! The second program gives the listed values. Each check panics where it does not.
 
+use crate::bounds;
 use crate::display::display;
+use crate::firm::firm;
+use crate::lean::known_lean;
 use crate::listed::*;
 use crate::p4;
 use crate::pick::pick;
 use crate::point::{dot, lay, plus, signs, Point};
 use crate::ready::{check, walk_from, Ready};
 use crate::session::{
-    asked_by, check_of, numbers, pick_of, session, told, told_check, told_touch, touch_of, walk_of,
-    MOST_BYTES,
+    asked_by, check_of, firm_of, numbers, pick_of, session, told, told_check, told_firm, told_lean,
+    told_touch, touch_of, walk_of, MOST_BYTES,
 };
 use crate::solid::{Sizes, Solid, Stack, Wedge};
 use crate::touch::{touch, Guess};
@@ -26,6 +29,10 @@ pub fn all() {
     listed_rows();
     slope_rows();
     stack_rows();
+    footings();
+    leans();
+    firms();
+    bounds::all();
     sessions();
     a_line_cut_at_the_last_byte_read();
     sum_above_reach();
@@ -42,7 +49,7 @@ fn as_sizes([width, height, depth]: [i64; 3]) -> Sizes {
 
 #[cfg_attr(test, test)]
 pub fn lines() {
-    for (input, output) in LINES {
+    for (input, output) in LINES.iter().chain(LEANING) {
         assert_eq!(session(input.as_bytes()), format!("{output}\n").as_bytes(), "{input:?}");
     }
 }
@@ -189,6 +196,32 @@ pub fn stack_rows() {
 }
 
 #[cfg_attr(test, test)]
+pub fn footings() {
+    for (input, lean, firm) in FOOTINGS {
+        let nine = numbers(input.as_bytes()).unwrap();
+        let answer = pick_of(nine);
+        assert_eq!(told_lean(known_lean(answer, nine[8])), format!("{lean}\n"), "{input}");
+        assert_eq!(told_firm(firm_of(nine, answer)), format!("{firm}\n"), "{input}");
+    }
+}
+
+#[cfg_attr(test, test)]
+pub fn leans() {
+    for (answer, reach, output) in LEANS {
+        let lean = known_lean(*answer, *reach);
+        assert_eq!(told_lean(lean), format!("{output}\n"), "{answer:?} {reach}");
+    }
+}
+
+#[cfg_attr(test, test)]
+pub fn firms() {
+    for (input, answer, output) in FIRMS {
+        let firm = firm_of(numbers(input.as_bytes()).unwrap(), *answer);
+        assert_eq!(told_firm(firm), format!("{output}\n"), "{input} {answer:?}");
+    }
+}
+
+#[cfg_attr(test, test)]
 pub fn sessions() {
     for (input, output) in SESSIONS {
         assert_eq!(session(input), *output);
@@ -236,13 +269,15 @@ pub fn stacks() {
     for case in STACKS {
         let (sizes, bytes) = case.stack();
         let stack = Stack { sizes, bytes: &bytes };
-        let picked = told(pick(&stack, case.start, 0, case.reach));
+        let answer = pick(&stack, case.start, 0, case.reach);
+        let picked = told(answer);
+        let footed = told_firm(firm(&stack, answer, 0, case.reach));
         let touched = told_touch(touch(&stack, case.start, 0, case.reach));
         let checked = told_check(check(&stack, case.start, 0, case.reach));
-        let Told { pick, touch, check } = case.told;
+        let Told { pick, touch, check, firm } = case.told;
         assert_eq!(
-            [picked, touched, checked],
-            [pick, touch, check].map(|told| format!("{told}\n"))
+            [picked, touched, checked, footed],
+            [pick, touch, check, firm].map(|told| format!("{told}\n"))
         );
         row_as_pick(&stack, case.start, 0, case.reach);
     }

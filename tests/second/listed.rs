@@ -1,9 +1,12 @@
-//! The cases that document 01 lists, those of document 02's landed requests, their readings and
-//! the lines of docs/LIMITS.md, with every expected value written out. The unit checks hold the
-//! second program to them, and the comparison holds the library to them.
+//! The cases that document 01 lists, those of document 02's landed requests, their readings, those
+//! of known lean and firm footing, and the lines of docs/LIMITS.md, with every expected value
+//! written out. The unit checks hold the second program to them, and the comparison holds the
+//! library to them.
 
+use crate::pick::Pick;
 use crate::ready::Handed;
 use crate::solid::Sizes;
+use crate::walk::{Record, Refusal};
 
 /// A line of a wedge session and what is printed for it.
 pub const LINES: &[(&str, &str)] = &[
@@ -103,6 +106,14 @@ pub const LINES: &[(&str, &str)] = &[
     ("1 2 5 808 100 100 100 0 2147483647", "R 1 0 0 0 0 0"),
     ("1 2 5 808 100 100 100 0 -2147483648", "R 1 0 0 0 0 0"),
     ("1 2 5 808 100 100 100 0 -2147483649", "B"),
+];
+
+/// Limits: lines whose answers lean nearly as far as the known lean has it, with no level axis, two
+/// and one. (The steps and looks of the first are the second program's.) No session has them.
+pub const LEANING: &[(&str, &str)] = &[
+    ("20 31 22 7301 100 100 100 0 5", "N 1 2 2 2 83"),
+    ("15 7 7 2901 100 100 100 0 3", "N 1 0 0 0 16"),
+    ("18 35 17 7002 100 100 100 0 4", "N 1 1 0 0 19"),
 ];
 
 /// Lines whose triangle is listed, with the vectors laid in.
@@ -361,6 +372,217 @@ pub const WALKS: &[(&str, Handed, &str)] = &[
     ("1 2 5 808 100 100 100 1 8", handed([101; 3], 0, 5), "R 9 101 101 101 5 101"),
 ];
 
+const R35: &str = "R 35 0 0 0 0 0";
+
+/// A pick of a wedge, asked as a line asks it, and of its answer the known lean ("L", part and whole)
+/// and, on the same wedge in the same frame and reach, the firm footing ("F", power, looks, part and
+/// whole). Where all stand there are 2 looks and as many a power as there are ways: six, or four
+/// where an axis or two are level.
+pub const FOOTINGS: &[(&str, &str, &str)] = &[
+    // W1 to W8. The sides of W1's triangle are (-2,1,0), (-3,-1,1) and (-1,-2,1): S is 11.
+    ("1 2 5 808 100 100 100 0 8", "L 33 1920", "F 8 26 33 1920"),
+    ("1 2 5 801 100 100 100 0 8", "L 33 1920", "F 8 26 33 1920"),
+    ("1 2 5 808 100 100 100 0 7", "R 35", R35),
+    ("1 1 1 303 100 100 100 0 3", "L 6 48", "F 4 20 6 48"),
+    ("1 2 5 808 1 1 1 0 8", "R 35", R35),
+    ("0 1 1 202 100 100 100 0 8", "L 9 128", "F 8 18 9 128"),
+    ("1 1 1 3 0 0 0 0 3", "R 35", R35),
+    ("-1 2 5 608 100 100 100 1 8", "L 33 1920", "F 8 26 33 1920"),
+    // W1's mirror images in the other frames.
+    ("1 -2 5 408 100 100 100 2 8", "L 33 1920", "F 8 26 33 1920"),
+    ("-1 -2 5 208 100 100 100 3 8", "L 33 1920", "F 8 26 33 1920"),
+    ("1 2 -5 -192 100 100 100 4 8", "L 33 1920", "F 8 26 33 1920"),
+    ("-1 2 -5 -392 100 100 100 5 8", "L 33 1920", "F 8 26 33 1920"),
+    ("1 -2 -5 -592 100 100 100 6 8", "L 33 1920", "F 8 26 33 1920"),
+    ("-1 -2 -5 -792 100 100 100 7 8", "L 33 1920", "F 8 26 33 1920"),
+    // A refused pick is 35; 1, 2 and 3 come before it, 4 to 10 do not.
+    ("1 1 1 303 100 100 100 0 0", "R 35", "R 1 0 0 0 0 0"),
+    ("1 1 1 303 100 100 100 0 257", "R 35", "R 1 0 0 0 0 0"),
+    ("1 1 1 303 100 100 100 8 8", "R 35", "R 2 0 0 0 0 0"),
+    ("1001 1 1 303 5 5 5 7 3", "R 35", "R 3 0 0 0 0 0"),
+    ("1 1 1 303 1023 5 5 0 8", "R 35", R35),
+    ("0 0 0 0 5 5 5 0 3", "R 35", R35),
+    ("0 0 0 1 5 5 5 0 3", "R 35", R35),
+    ("1 1 1 301 100 100 100 0 1", "R 35", R35),
+    ("1 1 1 303 100 100 100 0 2", "R 35", R35),
+    // The shortest reach says nothing, the longest nearly all.
+    ("0 0 1 101 100 100 100 0 1", "L 6 1", "F 1 6 6 1"),
+    ("0 1 1 202 100 100 100 0 2", "L 9 8", "F 2 10 9 8"),
+    ("0 0 1 512 511 511 511 0 256", "L 6 65536", "F 256 38 6 65536"),
+    ("1 1 1 1536 511 511 511 0 256", "L 6 196608", "F 256 56 6 196608"),
+    // Level axes: (5,0,3) ends with the side (-3,0,5).
+    ("5 0 3 808 100 100 100 0 8", "L 105 2176", "F 8 18 105 2176"),
+    ("-3 0 5 202 100 100 100 3 8", "L 105 2176", "F 8 18 105 2176"),
+    ("1 1 0 202 100 100 100 0 8", "L 9 128", "F 8 18 9 128"),
+    ("1 0 0 101 100 100 100 0 8", "L 6 64", "F 8 18 6 64"),
+    ("0 -1 0 -99 100 100 100 2 8", "L 6 64", "F 8 18 6 64"),
+    // Slopes above the reach. On (1,1,5) all stand at power 1, which is the last. On (5,6,7) p is 1
+    // below the plane, or 2, and the ways rise by 1, then 2.
+    ("1 1 5 705 100 100 100 0 1", "L 6 1", "F 1 6 6 1"),
+    ("5 6 7 1801 100 100 100 0 8", "L 6 192", "F 0 3 6 0"),
+    ("5 6 7 1802 100 100 100 0 8", "L 6 192", "F 0 4 6 0"),
+    // Those that lean: the first has the sides (-2,1,0), (0,-1,1) and (2,-2,1), which rise by -9, -9
+    // and 0.
+    ("20 31 22 7301 100 100 100 0 5", "L 27 576", "F 0 5 27 0"),
+    ("15 7 7 2901 100 100 100 0 3", "L 6 16", "F 0 3 6 0"),
+    ("18 35 17 7002 100 100 100 0 4", "L 9 32", "F 0 3 9 0"),
+    // p is 13, 5, 3 and 1 below the plane, and the ways rise by 1, 2, -1, 1, -2, -1.
+    ("10 11 12 3313 100 100 100 0 4", "L 6 48", "F 4 20 6 48"),
+    ("10 11 12 3305 100 100 100 0 4", "L 6 48", "F 2 16 6 12"),
+    ("10 11 12 3303 100 100 100 0 4", "L 6 48", "F 1 10 6 3"),
+    ("10 11 12 3301 100 100 100 0 4", "L 6 48", "F 0 3 6 0"),
+    // p is one nearer to the wall than q: the last power leaves the box, and is no look.
+    ("1 1 1 206 3 100 100 0 3", "L 6 48", "F 2 14 6 12"),
+    ("1 1 1 206 100 3 100 0 3", "L 6 48", "F 2 16 6 12"),
+    ("1 1 1 206 100 100 3 0 3", "L 6 48", "F 2 18 6 12"),
+    ("0 1 1 202 7 100 100 0 8", "L 9 128", "F 4 17 9 32"),
+    ("0 1 1 202 1016 100 100 1 8", "L 9 128", "F 4 17 9 32"),
+    ("0 0 1 101 7 100 100 0 8", "L 6 64", "F 4 15 6 16"),
+    ("0 0 1 101 100 7 100 0 8", "L 6 64", "F 4 17 6 16"),
+    ("0 0 1 101 0 100 100 0 1", "L 6 1", "F 0 3 6 0"),
+];
+
+const UNIT_VECTORS: [[i64; 3]; 3] = [[1, 0, 0], [0, 1, 0], [0, 0, 1]];
+const LEAST: i64 = i32::MIN as i64;
+const MOST: i64 = i32::MAX as i64;
+
+/// An accepted answer as a host may hand it. Its steps and looks say nothing here.
+const fn answer(normal: [i64; 3], vectors: [[i64; 3]; 3], apex: [i64; 3]) -> Pick {
+    Ok(Record { normal, vectors, apex, steps: 0, looks: 0 })
+}
+
+const fn with_normal(normal: [i64; 3]) -> Pick {
+    answer(normal, UNIT_VECTORS, [101; 3])
+}
+
+const fn with_vectors(normal: [i64; 3], vectors: [[i64; 3]; 3]) -> Pick {
+    answer(normal, vectors, [101; 3])
+}
+
+const fn with_apex(apex: [i64; 3]) -> Pick {
+    answer([1, 1, 1], UNIT_VECTORS, apex)
+}
+
+const fn refused_pick(number: u32) -> Pick {
+    Err(Refusal { number, place: [0; 3], steps: 0, looks: 0 })
+}
+
+const W1: Pick = with_vectors([1, 2, 5], [[1, 0, 0], [-1, 1, 0], [-2, -1, 1]]);
+/// Sides of squared length 9, 16 and 25.
+const SIDES: [[i64; 3]; 3] = [[0, 0, 0], [3, 0, 0], [0, 4, 0]];
+
+/// Known leans of answers that a host hands, with the reach.
+pub const LEANS: &[(Pick, i64, &str)] = &[
+    // W1's answer by the reach: 30 times the last power squared.
+    (W1, 1, "L 33 30"),
+    (W1, 2, "L 33 120"),
+    (W1, 3, "L 33 480"),
+    (W1, 4, "L 33 480"),
+    (W1, 5, "L 33 1920"),
+    (W1, 128, "L 33 491520"),
+    (W1, 129, "L 33 1966080"),
+    (W1, 256, "L 33 1966080"),
+    // 35: the reach; a refused pick.
+    (W1, 0, "R 35"),
+    (W1, -1, "R 35"),
+    (W1, 257, "R 35"),
+    (W1, LEAST, "R 35"),
+    (W1, MOST, "R 35"),
+    (refused_pick(1), 8, "R 35"),
+    (refused_pick(10), 8, "R 35"),
+    (refused_pick(4294967295), 8, "R 35"),
+    // The normal's ends, and zeros.
+    (with_normal([256, -256, 256]), 256, "L 6 12884901888"),
+    (with_normal([257, 1, 1]), 8, "R 35"),
+    (with_normal([1, 257, 1]), 8, "R 35"),
+    (with_normal([1, 1, 257]), 8, "R 35"),
+    (with_normal([-257, 0, 0]), 8, "R 35"),
+    (with_normal([0, LEAST, 0]), 8, "R 35"),
+    (with_normal([0, 0, MOST]), 8, "R 35"),
+    (with_normal([0, 0, 0]), 8, "R 35"),
+    // The vectors' ends.
+    (with_vectors([1, 1, 1], [[2046; 3], [-2046; 3], [0; 3]]), 1, "L 150700176 3"),
+    (with_vectors([1, 1, 1], [[2047, 0, 0], [0, 1, 0], [0, 0, 1]]), 1, "R 35"),
+    (with_vectors([1, 1, 1], [[1, 0, 0], [0, -2047, 0], [0, 0, 1]]), 1, "R 35"),
+    (with_vectors([1, 1, 1], [[1, 0, 0], [0, 1, 0], [0, 0, 2047]]), 1, "R 35"),
+    (with_vectors([1, 1, 1], [[1, LEAST, 0], [0, 1, 0], [0, 0, 1]]), 1, "R 35"),
+    (with_vectors([1, 1, 1], [[MOST; 3], [LEAST; 3], [MOST; 3]]), 1, "R 35"),
+    // The longest side, of those between corners that are not level.
+    (with_vectors([1, 1, 1], SIDES), 1, "L 75 3"),
+    (with_vectors([0, 1, 1], SIDES), 1, "L 78 2"),
+    (with_vectors([1, 0, 1], SIDES), 1, "L 51 2"),
+    (with_vectors([1, 1, 0], SIDES), 1, "L 30 2"),
+    (with_vectors([0, 0, -256], SIDES), 4, "L 6 1048576"),
+    (with_vectors([0, 7, 0], SIDES), 1, "L 6 49"),
+    (with_vectors([1, 1, 1], [[9; 3]; 3]), 1, "L 0 3"),
+    // A level axis's vector is judged all the same.
+    (with_vectors([0, 1, 1], [[2046, -2046, 7], [0, 1, 0], [0, 0, 1]]), 2, "L 9 8"),
+    (with_vectors([0, 1, 1], [[2047, 0, 0], [0, 1, 0], [0, 0, 1]]), 2, "R 35"),
+];
+
+/// Firm footings of such answers on wedges. A line's p is not asked about.
+pub const FIRMS: &[(&str, Pick, &str)] = &[
+    // W1's answer in another frame or with another reach; 64 leaves the box at once.
+    ("1 2 5 808 0 0 0 0 8", W1, "F 8 26 33 1920"),
+    ("1 2 5 808 0 0 0 1 8", W1, "F 8 26 33 1920"),
+    ("1 2 5 808 0 0 0 7 8", W1, "R 5 102 102 102 0 1"),
+    ("1 2 5 808 0 0 0 0 1", W1, "F 1 8 33 30"),
+    ("1 2 5 808 0 0 0 0 16", W1, "F 16 32 33 7680"),
+    ("1 2 5 808 0 0 0 0 256", W1, "F 32 38 33 30720"),
+    // On another wedge: its ways rise by -1, -3, 1, -2 and 3 on (1,1,1), p is 3 below.
+    ("1 1 1 303 0 0 0 0 8", W1, "F 0 7 33 0"),
+    ("0 0 0 0 0 0 0 0 8", W1, "R 5 100 100 100 0 1"),
+    ("0 0 0 1 0 0 0 0 8", W1, "R 6 101 101 101 0 2"),
+    // 1, 2, 3, 35, 4, in this order.
+    ("1001 2 5 808 0 0 0 8 0", refused_pick(9), "R 1 0 0 0 0 0"),
+    ("1001 2 5 808 0 0 0 8 257", with_apex([-1; 3]), "R 1 0 0 0 0 0"),
+    ("1001 2 5 808 0 0 0 8 8", refused_pick(9), "R 2 0 0 0 0 0"),
+    ("1 2 5 808 0 0 0 -1 8", W1, "R 2 0 0 0 0 0"),
+    ("1001 2 5 808 0 0 0 7 8", refused_pick(9), "R 3 0 0 0 0 0"),
+    ("1 2 5 4000001 0 0 0 0 8", W1, "R 3 0 0 0 0 0"),
+    ("1 2 5 808 0 0 0 0 8", refused_pick(9), R35),
+    ("1 2 5 808 0 0 0 0 8", refused_pick(4294967295), R35),
+    ("1 2 5 808 0 0 0 0 8", answer([0; 3], UNIT_VECTORS, [-5; 3]), R35),
+    ("1 2 5 808 0 0 0 0 8", answer([257, 0, 0], UNIT_VECTORS, [-5; 3]), R35),
+    ("1 2 5 808 0 0 0 0 8", answer([1; 3], [[2047, 0, 0]; 3], [-5; 3]), R35),
+    ("1 2 5 808 0 0 0 0 8", with_normal([1, 1, LEAST]), R35),
+    // 4 with p, else with the apex.
+    ("1 2 5 808 0 0 0 0 8", with_apex([0, 5, 5]), "R 4 -1 4 4 0 0"),
+    ("1 2 5 808 0 0 0 0 8", with_apex([1024, 5, 5]), "R 4 1024 5 5 0 0"),
+    ("1 2 5 808 0 0 0 1 8", with_apex([-1, 5, 5]), "R 4 -1 5 5 0 0"),
+    ("1 2 5 808 0 0 0 0 8", with_apex([0, 1024, 5]), "R 4 -1 1023 4 0 0"),
+    // p is held to 32 bits.
+    ("1 2 5 808 0 0 0 0 8", with_apex([LEAST, 5, 5]), "R 4 -2147483648 4 4 0 0"),
+    ("1 2 5 808 0 0 0 7 8", with_apex([5, 5, MOST]), "R 4 6 6 2147483647 0 0"),
+    ("1 2 5 808 0 0 0 0 8", with_apex([MOST, 5, LEAST]), "R 4 2147483646 4 -2147483648 0 0"),
+    (
+        "1 2 5 808 0 0 0 5 8",
+        with_apex([MOST, LEAST, LEAST]),
+        "R 4 2147483647 -2147483648 -2147483647 0 0",
+    ),
+    // 5 and 6 elsewhere.
+    ("1 2 5 808 0 0 0 0 8", with_apex([200; 3]), "R 5 199 199 199 0 1"),
+    ("1 2 5 808 0 0 0 0 8", with_apex([50; 3]), "R 6 50 50 50 0 2"),
+    // In two opposite corners of the box.
+    ("1 1 1 3 0 0 0 0 8", with_apex([1; 3]), "F 0 2 6 0"),
+    (
+        "-1 -1 -1 -3066 0 0 0 7 8",
+        answer([-1; 3], [[-1, 0, 0], [0, -1, 0], [0, 0, -1]], [1022; 3]),
+        "F 0 2 6 0",
+    ),
+    // The longest vectors leave the box at once; those of no length never.
+    (
+        "1 2 5 808 0 0 0 0 256",
+        with_vectors([1, 1, 1], [[2046, 0, 0], [0, 2046, 0], [0, 0, 2046]]),
+        "F 0 2 25116696 0",
+    ),
+    ("1 2 5 808 0 0 0 0 8", with_vectors([1, 1, 1], [[0; 3]; 3]), "F 8 26 0 192"),
+    // Level axes are those of the handed normal, plus the frame's sign before minus it: the third way
+    // rises by 2 in frame 0, the fourth in frame 2. p is 8 and 4 below the plane.
+    ("1 2 5 808 0 0 0 0 8", with_vectors([0, 0, 1], SIDES), "F 2 13 6 4"),
+    ("1 2 5 808 0 0 0 2 8", with_vectors([0, 0, 1], SIDES), "F 1 10 6 1"),
+];
+
 /// A whole session and its output.
 pub const SESSIONS: &[(&[u8], &[u8])] = &[
     (b"", b""),
@@ -376,6 +598,8 @@ pub const SESSIONS: &[(&[u8], &[u8])] = &[
 pub enum Filled {
     /// Exactly where ax + by + cz < h.
     Slope([i64; 4]),
+    /// There, but only where x is below this.
+    Ledge([i64; 4], i64),
     /// These places only.
     Only(&'static [[i64; 3]]),
 }
@@ -389,19 +613,31 @@ pub struct StackCase {
     pub told: Told,
 }
 
-/// What a pick, what a touch and what a check answers.
+/// What a pick, what a touch and what a check answers, and how firm that pick is.
 pub struct Told {
     pub pick: &'static str,
     pub touch: &'static str,
     pub check: &'static str,
+    pub firm: &'static str,
 }
 
+/// Of a refused pick.
 const fn told(pick: &'static str, touch: &'static str, check: &'static str) -> Told {
-    Told { pick, touch, check }
+    Told { pick, touch, check, firm: R35 }
+}
+
+impl Told {
+    const fn firm(self, firm: &'static str) -> Told {
+        Told { firm, ..self }
+    }
 }
 
 const fn slope_case(slope: [i64; 4], reach: i64, told: Told) -> StackCase {
     StackCase { side: 256, filled: Filled::Slope(slope), start: [127; 3], reach, told }
+}
+
+const fn ledge_case(slope: [i64; 4], end: i64, told: Told) -> StackCase {
+    StackCase { side: 256, filled: Filled::Ledge(slope, end), start: [127; 3], reach: 64, told }
 }
 
 const fn few_case(only: &'static [[i64; 3]], reach: i64, told: Told) -> StackCase {
@@ -410,23 +646,60 @@ const fn few_case(only: &'static [[i64; 3]], reach: i64, told: Told) -> StackCas
 
 pub const STACKS: &[StackCase] = &[
     // Limits: a stack offers at most 64 to a pick.
-    slope_case(DIAGONAL, 64, told("N 1 1 1 0 47", "G 1 1 1 0 11", "S 128 128 128 0 5")),
+    slope_case(
+        DIAGONAL,
+        64,
+        told("N 1 1 1 0 47", "G 1 1 1 0 11", "S 128 128 128 0 5").firm("F 64 44 6 12288"),
+    ),
     slope_case(DIAGONAL, 65, told("R 8 0 256 128 0 12", "G 1 1 1 0 11", "S 128 128 128 0 5")),
-    slope_case(FLAT, 64, told("N 0 0 1 0 31", "R 11 127 128 128 0 3", "S 128 128 128 3 31")),
+    slope_case(
+        FLAT,
+        64,
+        told("N 0 0 1 0 31", "R 11 127 128 128 0 3", "S 128 128 128 3 31").firm("F 64 30 6 4096"),
+    ),
     slope_case(
         FLAT,
         65,
         told("R 8 256 128 128 0 17", "R 11 127 128 128 0 3", "R 8 256 128 128 0 17"),
+    ),
+    // Limits: where the face ends beyond q the pick is the same, and not as firm.
+    ledge_case(
+        DIAGONAL,
+        132,
+        told("N 1 1 1 0 47", "G 1 1 1 0 11", "S 128 128 128 0 5").firm("F 4 23 6 48"),
+    ),
+    ledge_case(
+        FLAT,
+        132,
+        told("N 0 0 1 0 31", "R 11 127 128 128 0 3", "S 128 128 128 3 31").firm("F 4 15 6 16"),
+    ),
+    // Limits: where it ends at q the pick may have the normal of the other face.
+    ledge_case(
+        DIAGONAL,
+        128,
+        told("N 1 0 0 0 31", "R 11 128 127 128 0 4", "S 128 128 128 6 31").firm("F 2 11 6 4"),
     ),
     // p alone filled; beside it the voxel opposite on axis 0; two on the other axes instead.
     few_case(&[[3, 3, 3]], 1, told("R 7 3 4 4 0 8", "R 11 3 4 4 0 3", "R 7 3 4 4 0 8")),
     few_case(&[[3, 3, 3]], 2, told("R 7 3 4 4 0 14", "R 11 3 4 4 0 3", "R 7 3 4 4 0 14")),
     few_case(&[[3, 3, 3]], 3, told("R 8 8 4 4 0 7", "R 11 3 4 4 0 3", "R 8 8 4 4 0 7")),
     few_case(OPPOSITE, 2, told("R 7 3 4 4 0 5", "R 11 3 4 4 0 3", "R 7 3 4 4 0 5")),
-    few_case(CORNERS_1_2, 2, told("N 0 1 1 0 12", "R 11 3 4 4 0 3", "S 4 4 4 1 8")),
+    few_case(
+        CORNERS_1_2,
+        2,
+        told("N 0 1 1 0 12", "R 11 3 4 4 0 3", "S 4 4 4 1 8").firm("F 0 3 9 0"),
+    ),
     // Two corners; all three, and the box is too small for a pick's last power.
-    few_case(CORNERS_0_2, 2, told("N 1 0 1 0 12", "R 11 4 3 4 0 4", "S 4 4 4 2 8")),
-    few_case(CORNERS_0_1, 2, told("N 1 1 0 0 12", "R 11 4 4 3 0 5", "S 4 4 4 4 8")),
+    few_case(
+        CORNERS_0_2,
+        2,
+        told("N 1 0 1 0 12", "R 11 4 3 4 0 4", "S 4 4 4 2 8").firm("F 0 3 9 0"),
+    ),
+    few_case(
+        CORNERS_0_1,
+        2,
+        told("N 1 1 0 0 12", "R 11 4 4 3 0 5", "S 4 4 4 4 8").firm("F 0 3 9 0"),
+    ),
     few_case(CORNERS, 3, told("R 8 0 8 4 0 7", "G 1 1 1 0 11", "S 4 4 4 0 5")),
     few_case(CORNERS, 2, told("R 10 4 4 4 0 17", "R 10 4 4 4 0 11", "S 4 4 4 0 5")),
     // A corner that is empty, while the voxel at power 2 is filled.
@@ -473,6 +746,9 @@ impl StackCase {
     pub fn stack(&self) -> (Sizes, Vec<u8>) {
         match self.filled {
             Filled::Slope(slope) => slope_stack(self.side, slope),
+            Filled::Ledge([a, b, c, h], end) => {
+                stack_where(self.side, |[x, y, z]| x < end && a * x + b * y + c * z < h)
+            }
             Filled::Only(places) => few_stack(self.side, places),
         }
     }

@@ -4,7 +4,7 @@
 use crate::pick::{axes, powers, Pick};
 use crate::point::{Point, ORIGIN};
 use crate::solid::Solid;
-use crate::walk::{Refusal, Walk};
+use crate::walk::{at_once, Refusal, Walk};
 
 /// "The apex, level axes and looks that it was handed."
 #[derive(Clone, Copy, Debug, PartialEq, Eq)]
@@ -52,7 +52,7 @@ pub fn walk_from<S: Solid>(
     // "13, a ready start with more than 2 + 6K looks or with all three axes level, place and
     // counts zero, after 4."
     if handed.looks as usize > most_looks || remaining.is_empty() {
-        return Err(Refusal { number: 13, place: ORIGIN, steps: 0, looks: 0 });
+        return Err(at_once(13, ORIGIN));
     }
     walk.looks = handed.looks;
     walk.answer(&remaining)

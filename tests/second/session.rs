@@ -1,5 +1,7 @@
 //! The wedge program's session: the whole text in, the whole text out.
 
+use crate::firm::{firm, Firm, Footing};
+use crate::lean::{Bound, Lean};
 use crate::pick::{pick, Pick};
 use crate::point::Point;
 use crate::ready::{check, walk_from, Check, Handed, Ready};
@@ -74,6 +76,11 @@ pub fn walk_of(nine: [i64; 9], handed: Handed) -> Pick {
     })
 }
 
+/// A line's p is not asked about.
+pub fn firm_of(nine: [i64; 9], answer: Pick) -> Firm {
+    asked_by(nine, |wedge, _, frame, reach| firm(wedge, answer, frame, reach))
+}
+
 pub fn told(answer: Pick) -> String {
     told_as("N", answer)
 }
@@ -88,6 +95,24 @@ pub fn told_check(answer: Check) -> String {
     match answer {
         Ok(Ready { handed: Handed { apex: [x, y, z], level, looks }, .. }) => {
             format!("S {x} {y} {z} {level} {looks}\n")
+        }
+        Err(refusal) => told_refusal(refusal),
+    }
+}
+
+/// With "L" for a known lean: part and whole.
+pub fn told_lean(answer: Lean) -> String {
+    match answer {
+        Ok(Bound { part, whole }) => format!("L {part} {whole}\n"),
+        Err(number) => format!("R {number}\n"),
+    }
+}
+
+/// With "F" for a footing: its power, looks, part and whole.
+pub fn told_firm(answer: Firm) -> String {
+    match answer {
+        Ok(Footing { power, looks, bound: Bound { part, whole } }) => {
+            format!("F {power} {looks} {part} {whole}\n")
         }
         Err(refusal) => told_refusal(refusal),
     }

@@ -11,7 +11,7 @@ pub trait Solid {
     fn filled(&self, point: Point) -> bool;
 }
 
-fn in_box(point: Point, sides: Point) -> bool {
+pub fn in_box(point: Point, sides: Point) -> bool {
     (0..3).all(|axis| 0 <= point[axis] && point[axis] < sides[axis])
 }
 

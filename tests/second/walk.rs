@@ -4,7 +4,7 @@
 use crate::point::{cross, dot, lay, minus, plus, signs, times, Point, ORIGIN, UNITS};
 use crate::solid::Solid;
 
-const PAIRS: [(usize, usize); 6] = [(0, 1), (0, 2), (1, 0), (1, 2), (2, 0), (2, 1)];
+pub const PAIRS: [(usize, usize); 6] = [(0, 1), (0, 2), (1, 0), (1, 2), (2, 0), (2, 1)];
 
 type Triangle = [Point; 3];
 
@@ -23,6 +23,26 @@ pub struct Refusal {
     pub place: Point,
     pub steps: u32,
     pub looks: u32,
+}
+
+/// A refusal before the first look.
+pub fn at_once(number: u32, place: Point) -> Refusal {
+    Refusal { number, place, steps: 0, looks: 0 }
+}
+
+/// Refusals 1, 2 and 3.
+pub fn judged<S: Solid>(solid: &S, frame: i64, reach: i64) -> Result<(), Refusal> {
+    let refused = |number| Err(at_once(number, ORIGIN));
+    if !(1..=256).contains(&reach) {
+        return refused(1);
+    }
+    if !(0..=7).contains(&frame) {
+        return refused(2);
+    }
+    if !solid.permitted() {
+        return refused(3);
+    }
+    Ok(())
 }
 
 /// Why a walk stops; its counts are known to the walk.
@@ -66,23 +86,20 @@ impl<'a, S: Solid> Walk<'a, S> {
         reach: i64,
         powers: Vec<i64>,
     ) -> Result<Walk<'a, S>, Refusal> {
-        let at_once = |number, place| Err(Refusal { number, place, steps: 0, looks: 0 });
-        if !(1..=256).contains(&reach) {
-            return at_once(1, ORIGIN);
-        }
-        if !(0..=7).contains(&frame) {
-            return at_once(2, ORIGIN);
-        }
-        if !solid.permitted() {
-            return at_once(3, ORIGIN);
-        }
+        judged(solid, frame, reach)?;
         for point in [start, apex] {
             if !solid.inside(point) {
-                return at_once(4, point);
+                return Err(at_once(4, point));
             }
         }
         let signs = signs(frame);
         Ok(Walk { solid, signs, start, apex, reach, powers, steps: 0, looks: 0 })
+    }
+
+    /// Item 1 alone.
+    pub fn face(&mut self) -> Result<(), Refusal> {
+        let facing = self.facing();
+        facing.map_err(|stop| self.refusal(stop))
     }
 
     /// All before the rounds; what is asked after q is given.

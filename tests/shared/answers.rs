@@ -65,6 +65,25 @@ pub struct Check {
 
 #[repr(C)]
 #[derive(Clone, Copy, Debug, Default, PartialEq, Eq)]
+pub struct Lean {
+    pub number: u32,
+    pub part: u64,
+    pub whole: u64,
+}
+
+#[repr(C)]
+#[derive(Clone, Copy, Debug, Default, PartialEq, Eq)]
+pub struct Firm {
+    pub number: u32,
+    pub place: Point,
+    pub power: u32,
+    pub looks: u32,
+    pub part: u64,
+    pub whole: u64,
+}
+
+#[repr(C)]
+#[derive(Clone, Copy, Debug, Default, PartialEq, Eq)]
 pub struct Read {
     pub number: u32,
     pub value: u64,
