@@ -3,7 +3,7 @@
 use mathlib.Core.Path.{_≡_}
 use mathlib.Core.List.{List}
 use Prim.Native.Nat.{ℕ, _+_, _*_, _≤_}
-use lib.IntN.{ℤ, pos}
+use lib.IntN.{ℤ, pos, natAbs}
 use lib.ListN.{length}
 use lib.Signed.{_<ℤ_}
 use Rattle.rules.specs.declared.Vector.{Vector}
@@ -12,15 +12,17 @@ use Rattle.rules.specs.declared.Stack.{Stack}
 use Rattle.rules.specs.declared.Bound.{Bound}
 use Rattle.rules.specs.Vectors.{dot, origin}
 use Rattle.rules.specs.Lean.{boundAt}
-use Rattle.rules.specs.Firm.{footing}
+use Rattle.rules.specs.Walk.{signs}
+use Rattle.rules.specs.Firm.{footing, startUnder}
 use Rattle.laws.specs.Tests.{In}
 use Rattle.slope.specs.Demands.{Inputs, signsOf, apexOf, powersOf, OnSlope, ofWedge, ofStack}
 use Rattle.planes.specs.Lean.{OnPlane, LeansBelow, lastOf}
 use Rattle.planes.specs.Firm.{Touches, Room, Plane, ConvexPart, Touched}
 use Rattle.flat.specs.declared.FlatPick.{FlatPick}
+use Rattle.flat.specs.declared.FlatReady.{FlatReady}
 use Rattle.flat.specs.declared.FlatLean.{FlatLean}
 use Rattle.flat.specs.declared.FlatFirm.{FlatFirm}
-use Rattle.panel.specs.Promises.{KnewLean, FirmedWedge, FirmedStack}
+use Rattle.panel.specs.Promises.{WalkedWedge, WalkedStack, KnewLean, FirmedWedge, FirmedStack}
 use Rattle.host.specs.Demands.{acceptedOf, Called}
 use Rattle.host.specs.Rows.{RowCalled}
 
@@ -51,6 +53,11 @@ pub record HostLeans : Type 0 where
   pub oneRow : (ν : Vector) (t : ℤ) (i : Inputs) → OnPlane ν t i → (r : FlatPick) → RowCalled i r → r .number ≡ 0 → (b : FlatLean) → KnewLean r (i .reach) b → FlatLeans ν r b
   -- on any solid
   pub stands : (i : Inputs) (r : FlatPick) → Called i r → r .number ≡ 0 → (f : FlatFirm) → FirmCalled i r f → FlatStands i r f
+  -- of a walk from any ready start, checked or not, where its footing stands
+  pub wedgeWalk : (wedge : Wedge) (ready : FlatReady) (frame reach : ℤ) (r : FlatPick) → WalkedWedge wedge ready frame reach r → r .number ≡ 0 → (f : FlatFirm) → FirmedWedge wedge r frame reach f → f .number ≡ 0
+      → (ν : Vector) (t : ℤ) → Touches ν t (startUnder (r .apex) (signs (natAbs frame))) (r .apex) (f .power) (footing (signs (natAbs frame)) (acceptedOf r)) → LeansBelow (firmBound f) ν (r .normal)
+  pub stackWalk : (stack : Stack) (bytes : List ℕ) (ready : FlatReady) (frame reach : ℤ) (r : FlatPick) → WalkedStack stack bytes ready frame reach r → r .number ≡ 0 → (f : FlatFirm) → FirmedStack stack bytes r frame reach f → f .number ≡ 0
+      → (ν : Vector) (t : ℤ) → Touches ν t (startUnder (r .apex) (signs (natAbs frame))) (r .apex) (f .power) (footing (signs (natAbs frame)) (acceptedOf r)) → LeansBelow (firmBound f) ν (r .normal)
   -- on a convex part each plane that the apex is not below leans so, less than a right angle
   pub convex : (planes : List Plane) (i : Inputs) → ConvexPart planes i → (r : FlatPick) → Called i r → r .number ≡ 0 → (f : FlatFirm) → FirmCalled i r f
       → (plane : Plane) → In plane planes → Touched i plane → LeansBelow (firmBound f) (plane .normal) (r .normal) × (pos 0 <ℤ dot (plane .normal) (r .normal))

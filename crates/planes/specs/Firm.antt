@@ -45,9 +45,10 @@ pub record LeansFirmly (ν : Vector) (F : ℕ) (a : AcceptedPick) : Type 0 where
   pub lean : F * F * squared (cross ν (a .normal)) < 3 * spreadOf a * squared ν
   pub upward : 2 ≤ F → size (a .normal) ≤ F → pos 0 <ℤ dot ν (a .normal)
 
--- ---- what a footing tells, of any record: the start is filled, the apex empty, and from the start each way is filled at every power up to the last of those that were done;
+-- ---- what a footing tells, of any record: the start lies under the apex and is filled, the apex empty, and from the start each way is filled at every power up to the last of those that were done;
 -- at the first that is left, if one is, some way is not
 pub record Stood (solid : Solid) (bytes : List ℕ) (a : AcceptedPick) (frame reach : ℤ) (f : Footing) : Type 0 where
+  pub underApex : startUnder (a .apex) (signs (natAbs frame)) ⊕ signs (natAbs frame) ≡ a .apex
   pub startFilled : look solid bytes (startUnder (a .apex) (signs (natAbs frame))) ≡ Filled
   pub apexEmpty : look solid bytes (a .apex) ≡ Empty
   pub done : List ℕ
@@ -86,9 +87,9 @@ firmLooks (FirmRefused r) = r .looks
 pub record FirmFooting : Type 0 where
   -- any plane of which that is assumed, at any power: on any solid
   pub onePick : (i : Inputs) (a : AcceptedPick) → pickAt i ≡ Accepted a → (ν : Vector) (t : ℤ) (F : ℕ) → Touches ν t (i .start) (apexOf i) F (footing (signsOf i) a) → LeansFirmly ν F a
-  -- so also of a walk from any ready start, checked or not: the ways are looked at here
-  pub oneWalk : (solid : Solid) (bytes : List ℕ) (d : ReadyStart) (frame reach : ℤ) (a : AcceptedPick) → walkOf solid bytes d frame reach ≡ Accepted a
-      → (ν : Vector) (t : ℤ) (p : Vector) (F : ℕ) → p ⊕ signs (natAbs frame) ≡ a .apex → Touches ν t p (a .apex) F (footing (signs (natAbs frame)) a) → LeansFirmly ν F a
+  -- so also of a walk from any ready start, checked or not: the footing looks for itself, from the start under the apex
+  pub oneWalk : (solid : Solid) (bytes : List ℕ) (d : ReadyStart) (frame reach : ℤ) (a : AcceptedPick) → walkOf solid bytes d frame reach ≡ Accepted a → (f : Footing) → firmOf solid bytes (Accepted a) frame reach ≡ Stands f
+      → (ν : Vector) (t : ℤ) → Touches ν t (startUnder (a .apex) (signs (natAbs frame))) (a .apex) (f .power) (footing (signs (natAbs frame)) a) → LeansFirmly ν (f .power) a
   -- what an answer tells, of every record; of an accepted pick its start is the pick's
   pub told : (solid : Solid) (bytes : List ℕ) (a : AcceptedPick) (frame reach : ℤ) (f : Footing) → firmOf solid bytes (Accepted a) frame reach ≡ Stands f → Stood solid bytes a frame reach f
   pub sameStart : (i : Inputs) (a : AcceptedPick) → pickAt i ≡ Accepted a → startUnder (a .apex) (signsOf i) ≡ i .start

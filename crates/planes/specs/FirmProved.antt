@@ -16,6 +16,7 @@ use Rattle.integers.specs.Reify.{byring, sides}
 use Rattle.integers.specs.Order.{parts, linear, atom, goal, fact}
 use Rattle.rules.specs.declared.Vector.{Vector}
 use Rattle.rules.specs.declared.Solid.{Solid}
+use Rattle.rules.specs.declared.Look.{Look}
 use Rattle.rules.specs.declared.Look.the-variants.{Filled}
 use Rattle.rules.specs.declared.Levels.{Levels}
 use Rattle.rules.specs.declared.Accepted.{Accepted as AcceptedPick}
@@ -29,7 +30,7 @@ use Rattle.rules.specs.Vectors.{_⊕_, scale, dot}
 use Rattle.rules.specs.Solids.{box, inBox, permitted, look}
 use Rattle.rules.specs.Asked.{Asked, answered, refused}
 use Rattle.rules.specs.Walk.{Stop, signs, powers, first, allLevel, Probe, Found, found}
-use Rattle.rules.specs.Pick.{refusedAnswer}
+use Rattle.rules.specs.Pick.{isInside, refusedAnswer}
 use Rattle.rules.specs.Lean.{levelsOf, last, lastPower, boundAt}
 use Rattle.rules.specs.Firm.{Way, belongs, wayOf, footing, held, startUnder, firm, firmAnswer, firmOf}
 use Rattle.laws.specs.Tests.{Each, In, is-true, less, not-less}
@@ -96,31 +97,7 @@ module _ {c : Probe} {R : ℕ} {v : Levels} (a : AcceptedPick) (walked : WalkFou
         upward = found-upward walked g ν F e up low within some;
       }
 
--- ---- what an answer tells
-footing-answer : (x : Asked Stop (ℕ × Bound)) {f : Footing} → firmAnswer x ≡ Stands f → (t : List Vector) × (x ≡ answered (f .power, f .bound) t)
-unfolding firmAnswer
-footing-answer (answered y t) {f} e = let is : record { power = y .0; looks = length t; bound = y .1 } ≡ f = cc in (t, ap (λ (f : Footing). answered (f .power, f .bound) t) is)
-footing-answer (refused r t) e = absurd (let z : _≡_ {A = ℕ} 0 1 = cc in omega arith)
-
-told : (solid : Solid) (bytes : List ℕ) (a : AcceptedPick) (frame reach : ℤ) (f : Footing) → firmOf solid bytes (Accepted a) frame reach ≡ Stands f → Stood solid bytes a frame reach f
-unfolding firmOf
-told solid bytes a frame reach f is =
-    let x = footing-answer (firm (permitted solid bytes) (look solid bytes) frame reach (Accepted a)) is in
-    let h = says-answered (firm-says (permitted solid bytes) (look solid bytes) frame reach (2 + 6 * length (powers (natAbs reach))) (λ _. NatL.le-refl _) (Accepted a)) (x .1) .holds in
-    let r = h .reached in
-    record {
-      startFilled = h .startFilled;
-      apexEmpty = h .apexEmpty;
-      done = r .done;
-      left = r .left;
-      split = r .split;
-      filledThere = r .filledThere;
-      stops = r .stops;
-      power = r .power ∙ last-is (look solid bytes) (startUnder (a .apex) (signs (natAbs frame))) (r .done);
-      bound = h .isBound;
-    }
-
--- ---- the start of an accepted pick is found again
+-- ---- the start under the apex, in the box
 held-small : (z : ℤ) → Between 1023 z → held z ≡ z
 unfolding held
 held-small (pos k) h = go (ltZ (pos 2147483647) (pos k)) (not-less (pos 2147483647) (pos k) (omega (arith, parts, h .high)))
@@ -136,6 +113,52 @@ back x s = byring (x ∷ s ∷ []) (search sides depth 40 fits 5000) tt
 start-again : (p s : Vector) → InCube 1023 p → startUnder (p ⊕ s) s ≡ p
 unfolding startUnder _⊕_
 start-again p s h = vector-eq (ap held (back (p .x) (s .x)) ∙ held-small (p .x) (h .ofX)) (ap held (back (p .y) (s .y)) ∙ held-small (p .y) (h .ofY)) (ap held (back (p .z) (s .z)) ∙ held-small (p .z) (h .ofZ))
+
+held-in : (z : ℤ) → Between 1023 (held z) → held z ≡ z
+unfolding held
+held-in z h = go (ltZ z (negsuc 2147483647)) (ltZ (pos 2147483647) z) h
+  where
+    go : (a b : Bool) → Between 1023 (elim a [ true ↦ negsuc 2147483647 | false ↦ elim b [ true ↦ pos 2147483647 | false ↦ z ] ]) → (elim a [ true ↦ negsuc 2147483647 | false ↦ elim b [ true ↦ pos 2147483647 | false ↦ z ] ]) ≡ z
+    go true b k = absurd (k .low .le)
+    go false true k = absurd (omega (arith, parts, k .high))
+    go false false k = refl
+
+forth : (x s : ℤ) → x -ℤ s +ℤ s ≡ x
+forth x s = byring (x ∷ s ∷ []) (search sides depth 40 fits 5000) tt
+
+under-apex : (q s : Vector) → InCube 1023 (startUnder q s) → startUnder q s ⊕ s ≡ q
+unfolding startUnder _⊕_
+under-apex q s h =
+    vector-eq (ap (λ z. z +ℤ s .x) (held-in (q .x -ℤ s .x) (h .ofX)) ∙ forth (q .x) (s .x)) (ap (λ z. z +ℤ s .y) (held-in (q .y -ℤ s .y) (h .ofY)) ∙ forth (q .y) (s .y)) (ap (λ z. z +ℤ s .z) (held-in (q .z -ℤ s .z) (h .ofZ)) ∙ forth (q .z) (s .z))
+
+-- ---- what an answer tells
+filled-inside : (look : Vector → Look) {u : Vector} → look u ≡ Filled → T (isInside (look u))
+unfolding isInside
+filled-inside look e = rw e tt
+
+footing-answer : (x : Asked Stop (ℕ × Bound)) {f : Footing} → firmAnswer x ≡ Stands f → (t : List Vector) × (x ≡ answered (f .power, f .bound) t)
+unfolding firmAnswer
+footing-answer (answered y t) {f} e = let is : record { power = y .0; looks = length t; bound = y .1 } ≡ f = cc in (t, ap (λ (f : Footing). answered (f .power, f .bound) t) is)
+footing-answer (refused r t) e = absurd (let z : _≡_ {A = ℕ} 0 1 = cc in omega arith)
+
+told : (solid : Solid) (bytes : List ℕ) (a : AcceptedPick) (frame reach : ℤ) (f : Footing) → firmOf solid bytes (Accepted a) frame reach ≡ Stands f → Stood solid bytes a frame reach f
+unfolding firmOf
+told solid bytes a frame reach f is =
+    let x = footing-answer (firm (permitted solid bytes) (look solid bytes) frame reach (Accepted a)) is in
+    let h = says-answered (firm-says (permitted solid bytes) (look solid bytes) frame reach (2 + 6 * length (powers (natAbs reach))) (λ _. NatL.le-refl _) (Accepted a)) (x .1) .holds in
+    let r = h .reached in
+    record {
+      underApex = under-apex (a .apex) (signs (natAbs frame)) (solid-cube solid bytes (h .permittedSolid) _ (filled-inside (look solid bytes) (h .startFilled)));
+      startFilled = h .startFilled;
+      apexEmpty = h .apexEmpty;
+      done = r .done;
+      left = r .left;
+      split = r .split;
+      filledThere = r .filledThere;
+      stops = r .stops;
+      power = r .power ∙ last-is (look solid bytes) (startUnder (a .apex) (signs (natAbs frame))) (r .done);
+      bound = h .isBound;
+    }
 
 -- what holds at each of these holds at the last
 last-each : (P : ℕ → Type 0) (ls : List ℕ) → Each P ls → 1 ≤ length ls → P (last ls)
@@ -280,7 +303,8 @@ module _ (solid : Solid) (bytes : List ℕ) (pick : Pick) (frame reach : ℤ) wh
 pub firm-footing : FirmFooting
 firm-footing = record {
   onePick = one-pick;
-  oneWalk = λ solid bytes d frame reach a is ν t p F apex h. leans-firmly a (walk-accepted solid bytes d frame reach a is .1) (signs-are (natAbs frame)) (not-all-level solid bytes d frame reach a is) ν t p (a .apex) F apex h;
+  oneWalk = λ solid bytes d frame reach a is f k ν t h.
+      leans-firmly a (walk-accepted solid bytes d frame reach a is .1) (signs-are (natAbs frame)) (not-all-level solid bytes d frame reach a is) ν t _ (a .apex) (f .power) (told solid bytes a frame reach f k .underApex) h;
   told = told;
   sameStart = same-start;
   stands = stands-here;

@@ -148,6 +148,7 @@ module _ (ok : Bool) (look : Vector → Look) (frame reach : ℤ) where
 
   -- of an accepted answer
   pub record Footed (a : AcceptedPick) (f : ℕ × Bound) : Type 0 where
+    pub permittedSolid : T ok
     pub startFilled : look (startUnder (a .apex) (signs (natAbs frame))) ≡ Filled
     pub apexEmpty : look (a .apex) ≡ Empty
     pub reached : Reached look (startUnder (a .apex) (signs (natAbs frame))) (footing (signs (natAbs frame)) a) (powers (natAbs reach)) 0 (f .0)
@@ -164,7 +165,7 @@ module _ (ok : Bool) (look : Vector → Look) (frame reach : ℤ) where
     unmeasured : Few N FirmRefusal (stop 35 origin 0) []
     unmeasured = record { holds = record { known = inr refl; noStep = refl }; few = omega arith }
 
-    module _ (small : R ≤ 256) (a : AcceptedPick) where
+    module _ (small : R ≤ 256) (permitted : T ok) (a : AcceptedPick) where
       abbrev p : Vector
       p = startUnder (a .apex) s
 
@@ -175,7 +176,7 @@ module _ (ok : Bool) (look : Vector → Look) (frame reach : ℤ) where
       search-says e d =
           let K = length (powers R) in
           says-map _ (λ F. (F, boundAt F a)) (says-weaker _ (λ F t h. h) (λ r t h. absurd (h .holds)) (firm-from-says look p (footing s a) 0 (powers R))) (λ F t h.
-          record { holds = record { startFilled = e; apexEmpty = d; reached = h .holds; isBound = refl }; few = omega (arith, h .few, enough small, NatL.mul-le-mul-left K (few-ways s a), NatL.mul-comm K 6) })
+          record { holds = record { permittedSolid = permitted; startFilled = e; apexEmpty = d; reached = h .holds; isBound = refl }; few = omega (arith, h .few, enough small, NatL.mul-le-mul-left K (few-ways s a), NatL.mul-comm K 6) })
 
       under-says : Says (Few N (Footed a)) (Few N FirmRefusal) (firmUnder ok look frame reach a p)
       unfolding firmUnder
@@ -186,16 +187,16 @@ module _ (ok : Bool) (look : Vector → Look) (frame reach : ℤ) where
           (facing-says c p (h .0) (h .1) (λ _. early (omega arith, omega arith) (p ∷ []) (omega (arith, enough small))) (λ _ _. early (omega arith, omega arith) (p ∷ a .apex ∷ []) (omega (arith, enough small)))) (λ r t k. k) (λ _ t k. rw (k .2)
           (search-says (k .0) (k .1))))))
 
-    on-says : R ≤ 256 → (pick : Pick) → Says (Few N (FootedAs pick)) (Few N FirmRefusal) (firmOn ok look frame reach pick)
-    on-says small (Accepted a) = under-says small a
-    on-says small (Refused r) = says-refuse unmeasured
+    on-says : R ≤ 256 → T ok → (pick : Pick) → Says (Few N (FootedAs pick)) (Few N FirmRefusal) (firmOn ok look frame reach pick)
+    on-says small permitted (Accepted a) = under-says small permitted a
+    on-says small permitted (Refused r) = says-refuse unmeasured
 
     pub firm-says : (pick : Pick) → Says (Few N (FootedAs pick)) (Few N FirmRefusal) (firm ok look frame reach pick)
     unfolding firm
     firm-says pick =
         says-ensure _ _ _ (λ _. early (omega arith, omega arith) [] (omega arith)) (λ reached.
         says-ensure _ _ _ (λ _. early (omega arith, omega arith) [] (omega arith)) (λ _.
-        says-ensure _ _ _ (λ _. early (omega arith, omega arith) [] (omega arith)) (λ _. on-says (between-naturals 1 256 reach reached .1) pick)))
+        says-ensure _ _ _ (λ _. early (omega arith, omega arith) [] (omega arith)) (λ permitted. on-says (between-naturals 1 256 reach reached .1) permitted pick)))
 
   -- ---- where nothing is refused
   module _ (a : AcceptedPick) (reached : T (between (pos 1) reach (pos 256))) (framed : T (between (pos 0) frame (pos 7))) (permitted : T ok) (measured : T (measurable a))
