@@ -4,6 +4,7 @@ pub mod Only
 pub mod Parts
 pub mod Triples
 pub mod Levels
+pub mod Flags
 pub mod Flat
 pub mod Generators
 pub mod Tame

@@ -5,7 +5,6 @@ use mathlib.Core.List.{List}
 use Prim.Native.Nat.{ℕ, _+_, _≤_, max}
 use native.Mathlib.Omega.{arith}
 use lib.Dec.{lit≤}
-use lib.ListN.{length}
 use mir.Syntax.{w32}
 use mir.Val.{Fits, boolByte}
 use Rattle.rules.specs.declared.Vector.{Vector}
@@ -14,8 +13,9 @@ use Rattle.rules.specs.declared.Triangle.{Triangle}
 use Rattle.rules.specs.declared.Pair.{Pair}
 use Rattle.rules.specs.declared.Pair.the-variants.{P01, P02, P12}
 use Rattle.rules.specs.Vectors.{_⊖_}
-use Rattle.rules.specs.Walk.{Axis, way, keep, only, takesPart}
+use Rattle.rules.specs.Walk.{way, keep, only, takesPart}
 use Rattle.rules.specs.Lean.{longest, spread}
+use Rattle.laws.specs.Flags.{at-most-one, one-more}
 use Rattle.laws.specs.Triples.{All}
 use Rattle.laws.specs.Bounds.{Bounded, bounded-difference}
 use Rattle.lean.specs.Sides.{sideOf, Side}
@@ -25,11 +25,6 @@ longest-kept : (m : Triangle) (b : Bool) (x : Pair) (xs : List Pair) → longest
 unfolding longest keep
 longest-kept m true x xs = refl
 longest-kept m false x xs = omega arith
-
-one-more : (b : Bool) (k : Axis) (ks : List Axis) → length (keep b k ks) ≡ boolByte b + length ks
-unfolding keep
-one-more true k ks = omega arith
-one-more false k ks = omega arith
 
 -- neither of two axes is level
 abbrev neither : Bool → Bool → Bool
@@ -43,10 +38,6 @@ unfolding spread longest only takesPart
 spread-is v m = simp (longest-kept, one-more) (omega arith)
 
 -- ---- the sums fit
-at-most-one : (b : Bool) → boolByte b ≤ 1
-at-most-one true = lit≤ tt
-at-most-one false = lit≤ tt
-
 pub two-fit : (a b : Bool) → Fits w32 (boolByte a + boolByte b)
 two-fit a b = omega (arith, at-most-one a, at-most-one b)
 

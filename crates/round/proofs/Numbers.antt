@@ -8,9 +8,9 @@ use mir.Syntax.{w32}
 use mir.Val.{Fits, boolByte}
 use Rattle.rules.specs.declared.Levels.{Levels}
 use Rattle.rules.specs.Walk.{levels, from, to, takesPart}
+use Rattle.laws.specs.Flags.{at-most-one}
 use Rattle.choice.specs.Best.{pairAt}
 use Rattle.choice.specs.Numbers.{by-number}
-use Rattle.round.specs.Flags.{at-most-one}
 use Rattle.round.specs.Corners.{index}
 use Rattle.round.specs.Round.{asksBit, Skips}
 

@@ -1,5 +1,4 @@
 -- What a round keeps and promises.
-pub mod Flags
 pub mod Corners
 pub mod Round
 pub mod Settled

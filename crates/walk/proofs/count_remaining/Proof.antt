@@ -1,22 +1,17 @@
 -- `walk::count_remaining` meets its contract: an axis that is not level is one more of the list.
 use mathlib.Core.Path.{_≡_}
-use mathlib.Core.Bool.{Bool, true, false, not}
-use mathlib.Core.List.{List, []}
+use mathlib.Core.Bool.{not}
+use mathlib.Core.List.{[]}
 use Prim.Native.Nat.{_+_, _≤_}
 use native.Mathlib.Omega.{arith}
 use lib.ListN.{length}
 use mir.Val.{boolByte}
 use borrow.Author.Needs.{needs}
 use Rattle.rules.specs.declared.Levels.{Levels}
-use Rattle.rules.specs.Walk.{Axis, axis0, axis1, axis2, keep, only, remaining}
-use Rattle.round.specs.Flags.{at-most-one}
+use Rattle.rules.specs.Walk.{axis0, axis1, axis2, keep, only, remaining}
+use Rattle.laws.specs.Flags.{at-most-one, one-more}
 use Rattle.walk.proofs.count_remaining.Statement.{statement}
 use Rattle.walk.proofs.count_remaining.Tie as tie
-
-one-more : (b : Bool) (k : Axis) (ks : List Axis) → length (keep b k ks) ≡ boolByte b + length ks
-unfolding keep
-one-more true k ks = omega arith
-one-more false k ks = omega arith
 
 counted : (v : Levels) → boolByte (not (v .x)) + boolByte (not (v .y)) + boolByte (not (v .z)) ≡ length (remaining v)
 unfolding remaining only
