@@ -1,4 +1,4 @@
--- Documents 01 and 02 as definitions, in document 01's order, and beside them `Lean` and `Firm`, which no document asks for; `Cases` and `Comments` have the worked cases, proved.
+-- Documents 01 and 02 as definitions, in document 01's order, and beside them `Lean` and `Firm`, which no document asks for; `Cases`, `Footings` and `Comments` have the worked cases, proved.
 pub mod Vectors
 pub mod Solids
 pub mod Asked
@@ -14,4 +14,5 @@ pub mod Display
 pub mod Session
 pub mod Texts
 pub mod Cases
+pub mod Footings
 pub mod Comments
