@@ -1,0 +1,13 @@
+-- `footing::belongs` meets its contract: a pair by its two axes, a unit vector by its own.
+use borrow.Author.Needs.{needs}
+use Rattle.round.specs.Corners.{index-below}
+use Rattle.footing.proofs.Ways.{pair-belongs, unit-belongs}
+use Rattle.footing.proofs.belongs.Statement.{statement}
+use Rattle.footing.proofs.belongs.Tie as tie
+
+pub belongs-spec : {M : Type 1} → statement M
+belongs-spec =
+    tie.close
+    (tie.spec
+    (λ c κs. search needs) (λ c κs. search index-below) (λ c κs. search needs) (λ c κs. search index-below) (λ c. search pair-belongs)
+    (λ c κs. search needs) (λ c. search unit-belongs))
