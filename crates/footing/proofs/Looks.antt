@@ -21,8 +21,9 @@ use Rattle.laws.specs.Powers.{powers-last, powers-more}
 use Rattle.laws.specs.Tally.{Tally, yes, Gives, tally, then-yes, at-once}
 use Rattle.footing.specs.declared.Ground.{Ground}
 use Rattle.footing.specs.declared.Stood.{Stood}
+use Rattle.footing.specs.declared.Stood.the-variants.{All, NotAll}
 use Rattle.footing.specs.Ways.{wayAt}
-use Rattle.footing.specs.Footing.{vectorsOf, Looked, AllLooked, FirmTo}
+use Rattle.footing.specs.Footing.{stoodLooks, vectorsOf, Looked, AllLooked, FirmTo}
 
 -- ---- one way
 module _ (g : Ground) (bytes : List ℕ) (way power : ℕ) where
@@ -34,15 +35,15 @@ module _ (g : Ground) (bytes : List ℕ) (way power : ℕ) where
   seen-there p q r h e = ap (look (g .solid) bytes) (sym (r ∙ ap (λ (v : Vector). g .start ⊕ v) (q ∙ ap (scale (pos power)) p))) ∙ sym h ∙ e
 
 module _ {g : Ground} {bytes : List ℕ} {way power looks : ℕ} {u a at : Vector} {k : Look} (p : u ≡ wayOf (g .signs) (g .triangle) (wayAt way)) (q : a ≡ scale (pos power) u) (r : at ≡ g .start ⊕ a) (h : k ≡ look (g .solid) bytes at) where
-  pub looked-filled : k ≡ Filled → Looked g bytes way power looks (record { all = true; looks = looks + 1 })
+  pub looked-filled : k ≡ Filled → Looked g bytes way power looks (All (looks + 1))
   unfolding place stands tally
   looked-filled e = record { gives = rw (seen-there g bytes way power p q r h e) (record { is = refl }); few = omega arith }
 
-  pub looked-empty : k ≡ Empty → Looked g bytes way power looks (record { all = false; looks = looks + 1 })
+  pub looked-empty : k ≡ Empty → Looked g bytes way power looks (NotAll (looks + 1))
   unfolding place stands tally
   looked-empty e = record { gives = rw (seen-there g bytes way power p q r h e) (record { is = refl }); few = omega arith }
 
-  pub looked-outside : k ≡ Outside → Looked g bytes way power looks (record { all = false; looks = looks })
+  pub looked-outside : k ≡ Outside → Looked g bytes way power looks (NotAll looks)
   unfolding place stands
   looked-outside e = record { gives = rw (seen-there g bytes way power p q r h e) at-once; few = omega arith }
 
@@ -66,7 +67,7 @@ module _ {g : Ground} {bytes : List ℕ} {power looks : ℕ} where
   looking-begins = record { low = omega arith; few = omega arith; rest = λ h. h }
 
   module _ {i n : ℕ} (h : Looking g bytes power looks i n) where
-    pub looking-ends : 12 ≤ i → AllLooked g bytes power looks (record { all = true; looks = n })
+    pub looking-ends : 12 ≤ i → AllLooked g bytes power looks (All n)
     unfolding only allStand
     looking-ends z =
         let last : i ≡ 12 = omega (arith, h .low) in
@@ -82,13 +83,13 @@ module _ {g : Ground} {bytes : List ℕ} {power looks : ℕ} where
         unfolding only keep
         from-here k = h .rest (rw (ways-from i l, sym t ∙ e) k)
 
-        pub looking-on : {m : ℕ} → r .all ≡ true → m ≡ r .looks → Looking g bytes power looks (i + 1) m
+        pub looking-on : {k m : ℕ} → r ≡ All k → m ≡ k → Looking g bytes power looks (i + 1) m
         unfolding allStand
-        looking-on f z = rw z record { low = omega arith; few = omega (arith, h .few, w .few); rest = λ k. from-here (then-yes _ (rw f at (w .gives)) k) }
+        looking-on f z = rw z record { low = omega arith; few = omega (arith, h .few, w .few, ap stoodLooks f); rest = λ k. from-here (then-yes _ (rw f at (w .gives)) k) }
 
-        pub looking-stopped : r .all ≡ false → AllLooked g bytes power looks r
+        pub looking-stopped : {k : ℕ} → r ≡ NotAll k → AllLooked g bytes power looks (NotAll k)
         unfolding allStand
-        looking-stopped f = record { gives = from-here (then-yes _ (w .gives) (rw f at-once)); few = omega (arith, h .few, w .few) }
+        looking-stopped f = record { gives = from-here (then-yes _ (rw f at (w .gives)) at-once); few = omega (arith, h .few, w .few, ap stoodLooks f) }
 
 pub ruleset around-looking = (looking-begins, looking-passed, looking-on, looking-stopped, looking-ends)
 
@@ -113,37 +114,34 @@ module _ {g : Ground} {bytes : List ℕ} {reach looks : ℕ} where
 
   module _ {F l n : ℕ} {r : Stood} (h : Rising g bytes reach looks F l n) (w : AllLooked g bytes l n r) where
     -- the powers from l on, by what all ways at l gave
-    stood : (ls : List ℕ) {t : Tally Stop ℕ} → r .all ≡ true → Gives (r .looks) (upward g bytes reach looks l ls) t → Gives n (upward g bytes reach looks F (l ∷ ls)) t
+    all-stood : (ls : List ℕ) {k : ℕ} {t : Tally Stop ℕ} → r ≡ All k → Gives k (upward g bytes reach looks l ls) t → Gives n (upward g bytes reach looks F (l ∷ ls)) t
     unfolding firmFrom
-    stood ls e k = then-yes _ (rw e at (w .gives)) k
+    all-stood ls e k = then-yes _ (rw e at (w .gives)) k
 
-    fallen : (ls : List ℕ) → r .all ≡ false → Gives n (upward g bytes reach looks F (l ∷ ls)) (yes F (r .looks))
+    not-all-stood : (fuel : ℕ) {k : ℕ} → r ≡ NotAll k → Gives n (upward g bytes reach looks F (powersFrom fuel l reach)) (yes F k)
+    unfolding firmFrom powersFrom
+    not-all-stood zero e = then-yes _ (rw e at (w .gives)) at-once
+    not-all-stood (suc fuel) e = then-yes _ (rw e at (w .gives)) at-once
+
+    pub rising-stopped : {k m : ℕ} → r ≡ NotAll k → m ≡ k → FirmTo g bytes reach looks (record { power = F; looks = m })
+    rising-stopped e z = rw z record { gives = h .rest (not-all-stood (h .fuel) e); low = omega (arith, h .below, h .low) }
+
+    pub rising-ends : {k m : ℕ} → r ≡ All k → m ≡ k → reach ≤ l → FirmTo g bytes reach looks (record { power = l; looks = m })
     unfolding firmFrom
-    fallen ls e = then-yes _ (w .gives) (rw e at-once)
+    rising-ends e z o = rw z record { gives = h .rest (rw (powers-last (h .fuel) l reach o) (all-stood [] e at-once)); low = omega (arith, h .low) }
 
-    first-of : (fuel : ℕ) → (ls : List ℕ) × (powersFrom fuel l reach ≡ l ∷ ls)
-    unfolding powersFrom
-    first-of zero = ([], refl)
-    first-of (suc fuel) = (_, refl)
-
-    pub rising-falls : r .all ≡ false → FirmTo g bytes reach looks (record { power = F; looks = r .looks })
-    rising-falls e = let f = first-of (h .fuel) in record { gives = h .rest (rw (f .1) (fallen (f .0) e)); low = omega (arith, h .below, h .low) }
-
-    pub rising-ends : r .all ≡ true → reach ≤ l → FirmTo g bytes reach looks (record { power = l; looks = r .looks })
-    unfolding firmFrom
-    rising-ends e o = record { gives = h .rest (rw (powers-last (h .fuel) l reach o) (stood [] e at-once)); low = omega (arith, h .low) }
-
-    pub rising-on : reach ≤ 256 → r .all ≡ true → l < reach → Rising g bytes reach looks l (l + l) (r .looks)
-    rising-on s e o =
-        let m = powers-more (h .fuel) l reach o (h .enough) in
+    pub rising-on : {k m : ℕ} → reach ≤ 256 → r ≡ All k → m ≡ k → l < reach → Rising g bytes reach looks l (l + l) m
+    rising-on s e z o =
+        let p = powers-more (h .fuel) l reach o (h .enough) in
+        rw z
         record {
           one = omega (arith, h .one);
           low = omega arith;
           below = omega (arith, h .one);
-          few = omega (arith, h .few, h .one, w .few);
-          fuel = m .0;
-          enough = omega (arith, h .one, m .1);
-          rest = λ k. h .rest (rw (m .2) (stood (powersFrom (m .0) (l + l) reach) e k));
+          few = omega (arith, h .few, h .one, w .few, ap stoodLooks e);
+          fuel = p .0;
+          enough = omega (arith, h .one, p .1);
+          rest = λ t. h .rest (rw (p .2) (all-stood (powersFrom (p .0) (l + l) reach) e t));
         }
 
-pub ruleset rising = (rising-begins, rising-falls, rising-ends, rising-on)
+pub ruleset rising = (rising-begins, rising-stopped, rising-ends, rising-on)

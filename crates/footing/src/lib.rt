@@ -26,10 +26,10 @@ pub struct Ground {
     pub level: Levels,
 }
 
-// Whether all that was looked at stands, and the looks so far.
-struct Stood {
-    all: bool,
-    looks: u32,
+// Whether all that was looked at stands; each with the looks so far.
+enum Stood {
+    All(u32),
+    NotAll(u32),
 }
 
 // The last power at which all stood, 0 if at none, and the looks so far.
@@ -112,18 +112,9 @@ fn look_out(ground: Ground, bytes: &[u8], way: u32, power: u32, looks: u32) -> S
     let at = space::add(p, space::scale(power, way_of(s, m, way)));
     let seen = solid::look_at(solid, grid, bytes, at);
     match seen {
-        Look::Filled => Stood {
-            all: true,
-            looks: looks + 1,
-        },
-        Look::Empty => Stood {
-            all: false,
-            looks: looks + 1,
-        },
-        Look::Outside => Stood {
-            all: false,
-            looks: looks,
-        },
+        Look::Filled => Stood::All(looks + 1),
+        Look::Empty => Stood::NotAll(looks + 1),
+        Look::Outside => Stood::NotAll(looks),
     }
 }
 
@@ -138,18 +129,18 @@ fn look_around(ground: Ground, bytes: &[u8], power: u32, looks: u32) -> Stood
     while i < 12 {
         if belongs(level, i) {
             let r = look_out(ground, bytes, i, power, n);
-            if r.all {
-                n = r.looks;
-            } else {
-                return r;
+            match r {
+                Stood::NotAll(k) => {
+                    return Stood::NotAll(k);
+                }
+                Stood::All(k) => {
+                    n = k;
+                }
             }
         }
         i = i + 1;
     }
-    Stood {
-        all: true,
-        looks: n,
-    }
+    Stood::All(n)
 }
 
 // The powers upward, from 1 to the first that is at least the reach, up to the one at which a way doesn't stand.
@@ -162,11 +153,15 @@ pub fn firm_to(ground: Ground, bytes: &[u8], reach: u32, looks: u32) -> Footed
     let mut n = looks;
     loop {
         let r = look_around(ground, bytes, power, n);
-        n = r.looks;
-        if r.all {
-            last = power;
-        } else {
-            break;
+        match r {
+            Stood::NotAll(k) => {
+                n = k;
+                break;
+            }
+            Stood::All(k) => {
+                n = k;
+                last = power;
+            }
         }
         if reach <= power {
             break;

@@ -13,6 +13,9 @@ Inv-loop ground bytes power looks level n₀ i₀ n i = Looking ground bytes pow
 abbrev μ-loop : tie.MeasureT-loop
 μ-loop ground bytes power looks level n₀ i₀ n i = 12 - i
 
+begins : tie.Need-loop-holds Inv-loop μ-loop
+begins c = search around-looking
+
 look-out-requires : tie.Need-look-out-requires Inv-loop μ-loop
 look-out-requires c κs =
     let l = c .before .before .before in
@@ -22,11 +25,14 @@ look-out-requires c κs =
 again : tie.Need-loop-again Inv-loop μ-loop
 again c = ⊎-elim (λ w. search around-looking) (λ w. search around-looking) (c .if1 .came)
 
+ends : tie.Need-returns-2 Inv-loop μ-loop
+ends c = search around-looking
+
 pub look-around-spec : {M : Type 1} → statement M
 look-around-spec =
     tie.close
     (tie.spec
     Inv-loop
     μ-loop
-    (λ c. search around-looking) (λ c κs. search needs) look-out-requires (λ c. search around-looking)
-    (λ c. omega arith) (λ c. omega arith) again (λ c. search around-looking))
+    begins (λ c κs. search needs) look-out-requires (λ c. search needs) (λ c. search around-looking)
+    (λ c. search needs) (λ c. omega arith) (λ c. omega arith) again ends)

@@ -5,9 +5,12 @@ use Rattle.footing.proofs.Ways.{vector-fits, pair-way-made}
 use Rattle.footing.proofs.pair_way.Statement.{statement}
 use Rattle.footing.proofs.pair_way.Tie as tie
 
+difference : tie.Need-returns
+difference c = search pair-way-made
+
 pub pair-way-spec : {M : Type 1} → statement M
 pair-way-spec =
     tie.close
     (tie.spec
     (λ c κs. search needs) (λ c κs. search needs) (λ c κs. search index-below) (λ c κs. search index-below) (λ c κs. search vector-fits)
-    (λ c. search pair-way-made))
+    difference)
