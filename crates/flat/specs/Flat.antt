@@ -12,6 +12,10 @@ use Rattle.rules.specs.declared.Pick.{Pick}
 use Rattle.rules.specs.declared.Pick.the-variants.{Accepted, Refused}
 use Rattle.rules.specs.declared.Touch.{Touch}
 use Rattle.rules.specs.declared.Touch.the-variants.{Guess, Refused as TouchRefused}
+use Rattle.rules.specs.declared.Lean.{Lean}
+use Rattle.rules.specs.declared.Lean.the-variants.{Known, Unknown}
+use Rattle.rules.specs.declared.Firm.{Firm}
+use Rattle.rules.specs.declared.Firm.the-variants.{Stands, Refused as FirmRefused}
 use Rattle.rules.specs.declared.Display.{Display}
 use Rattle.rules.specs.declared.Display.the-variants.{Lit, Unlit}
 use Rattle.rules.specs.declared.Reading.{Reading}
@@ -19,11 +23,13 @@ use Rattle.rules.specs.declared.Reading.the-variants.{Read, Unread}
 use Rattle.rules.specs.declared.Writing.{Writing}
 use Rattle.rules.specs.declared.Writing.the-variants.{Written, Unwritten}
 use Rattle.rules.specs.Vectors.{origin}
-use Rattle.rules.specs.Walk.{levels}
+use Rattle.rules.specs.Walk.{triangle, levels}
 use Rattle.flat.specs.declared.FlatPick.{FlatPick}
 use Rattle.flat.specs.declared.FlatTouch.{FlatTouch}
 use Rattle.flat.specs.declared.FlatReady.{FlatReady}
 use Rattle.flat.specs.declared.FlatCheck.{FlatCheck}
+use Rattle.flat.specs.declared.FlatLean.{FlatLean}
+use Rattle.flat.specs.declared.FlatFirm.{FlatFirm}
 use Rattle.flat.specs.declared.FlatReading.{FlatReading}
 use Rattle.flat.specs.declared.FlatWriting.{FlatWriting}
 use Rattle.flat.specs.declared.FlatDisplay.{FlatDisplay}
@@ -52,6 +58,13 @@ flatPick (Refused r) = record {
   m2 = origin;
   apex = origin;
 }
+
+-- as a host hands it back: by its number
+unfoldable pub handedPick : FlatPick → Pick
+handedPick r = elim (eqb (r .number) 0) [
+  | true ↦ Accepted (record { normal = r .normal; triangle = triangle (r .m0) (r .m1) (r .m2); apex = r .apex; steps = r .steps; looks = r .looks })
+  | false ↦ Refused (record { number = r .number; place = r .place; steps = r .steps; looks = r .looks })
+]
 
 -- guess is 1 when number is 0, else 0; otherwise as a pick's
 abbrev pub withGuess : ℕ → FlatPick → FlatTouch
@@ -98,6 +111,18 @@ abbrev pub flatCheck : Check → FlatCheck
 flatCheck (Ready d) = record { number = 0; place = origin; looks = d .looks; ready = flatReady d }
 flatCheck (CheckRefused r) = record { number = r .number; place = r .place; looks = r .looks; ready = noReady }
 
+-- ---- how far an accepted normal may lean, and how firm its footing is
+-- number 0: known. Refused: part and whole 0
+abbrev pub flatLean : Lean → FlatLean
+flatLean (Known b) = record { number = 0; part = b .part; whole = b .whole }
+flatLean (Unknown n) = record { number = n; part = 0; whole = 0 }
+
+-- number 0: place 0 0 0. Refused: number, place and looks, all else 0
+abbrev pub flatFirm : Firm → FlatFirm
+flatFirm (Stands f) = record { number = 0; place = origin; power = f .power; looks = f .looks; part = f .bound .part; whole = f .bound .whole }
+flatFirm (FirmRefused r) = record { number = r .number; place = r .place; power = 0; looks = r .looks; part = 0; whole = 0 }
+
+-- ---- the display normal, and P4 stacks
 -- +0
 abbrev pub plusZero : Float
 plusZero = fin false 0 (pos 0)

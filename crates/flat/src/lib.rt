@@ -1,13 +1,18 @@
-// The answers of the core as plain numbers for C, each flattened by a definition of `specs/Flat.antt`, and a ready start read back.
+// The answers of the core as plain numbers for C, each flattened by a definition of `specs/Flat.antt`, and a ready start and a pick read back.
 ghost use mathlib.Core.Path.{_≡_};
-ghost use Rattle.flat.specs.Flat.{flatPick, withGuess, flatTouch, maskOf, levelsOf, flatReady, readyOf, flatCheck, flatDisplay, flatReading, flatWriting};
+ghost use Rattle.flat.specs.Flat.{flatPick, handedPick, withGuess, flatTouch, maskOf, levelsOf, flatReady, readyOf, flatCheck, flatLean, flatFirm, flatDisplay, flatReading, flatWriting};
+use rules::Accepted;
 use rules::Check;
 use rules::Display;
+use rules::Firm;
+use rules::Lean;
 use rules::Levels;
 use rules::Pick;
 use rules::Reading;
 use rules::ReadyStart;
+use rules::Refused;
 use rules::Touch;
+use rules::Triangle;
 use rules::Vector;
 use rules::Writing;
 
@@ -54,6 +59,23 @@ pub struct FlatCheck {
     pub place: Vector,
     pub looks: u32,
     pub ready: FlatReady,
+}
+
+#[repr(C)]
+pub struct FlatLean {
+    pub number: u32,
+    pub part: u64,
+    pub whole: u64,
+}
+
+#[repr(C)]
+pub struct FlatFirm {
+    pub number: u32,
+    pub place: Vector,
+    pub power: u32,
+    pub looks: u32,
+    pub part: u64,
+    pub whole: u64,
 }
 
 #[repr(C)]
@@ -210,6 +232,53 @@ pub fn flatten_check(answer: Check) -> FlatCheck
     }
 }
 
+pub fn flatten_lean(answer: Lean) -> FlatLean
+    ensures { λ r. ⌜ r ≡ flatLean answer ⌝ }
+{
+    match answer {
+        Lean::Known(b) => FlatLean {
+            number: 0,
+            part: b.part,
+            whole: b.whole,
+        },
+        Lean::Unknown(number) => FlatLean {
+            number: number,
+            part: 0,
+            whole: 0,
+        },
+    }
+}
+
+pub fn flatten_firm(answer: Firm) -> FlatFirm
+    ensures { λ r. ⌜ r ≡ flatFirm answer ⌝ }
+{
+    match answer {
+        Firm::Stands(f) => {
+            let place = Vector { x: 0, y: 0, z: 0 };
+            let bound = f.bound;
+            FlatFirm {
+                number: 0,
+                place: place,
+                power: f.power,
+                looks: f.looks,
+                part: bound.part,
+                whole: bound.whole,
+            }
+        }
+        Firm::Refused(r) => {
+            let place = r.place;
+            FlatFirm {
+                number: r.number,
+                place: place,
+                power: 0,
+                looks: r.looks,
+                part: 0,
+                whole: 0,
+            }
+        }
+    }
+}
+
 pub fn flatten_reading(answer: Reading) -> FlatReading
     ensures { λ r. ⌜ r ≡ flatReading answer ⌝ }
 {
@@ -265,7 +334,7 @@ pub fn flatten_display(answer: Display) -> FlatDisplay
     }
 }
 
-// ---- a ready start read back
+// ---- what a host hands back
 
 // Higher bits are not looked at.
 fn levels_of(mask: u32) -> Levels
@@ -289,4 +358,35 @@ pub fn ready_of(ready: FlatReady) -> ReadyStart
         level: level,
         looks: ready.looks,
     }
+}
+
+pub fn handed_pick(pick: FlatPick) -> Pick
+    ensures { λ r. ⌜ r ≡ handedPick pick ⌝ }
+{
+    if pick.number == 0 {
+        let normal = pick.normal;
+        let m0 = pick.m0;
+        let m1 = pick.m1;
+        let m2 = pick.m2;
+        let apex = pick.apex;
+        let triangle = Triangle {
+            m0: m0,
+            m1: m1,
+            m2: m2,
+        };
+        return Pick::Accepted(Accepted {
+            normal: normal,
+            triangle: triangle,
+            apex: apex,
+            steps: pick.steps,
+            looks: pick.looks,
+        });
+    }
+    let place = pick.place;
+    Pick::Refused(Refused {
+        number: pick.number,
+        place: place,
+        steps: pick.steps,
+        looks: pick.looks,
+    })
 }
