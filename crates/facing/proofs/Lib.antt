@@ -1,4 +1,3 @@
--- p and q, and the corners one by one.
+-- The corners one by one.
 pub mod Units
-pub mod Facing
 pub mod Corners

@@ -9,14 +9,11 @@ use Rattle.rules.specs.declared.Vector.{Vector}
 use Rattle.rules.specs.declared.Solid.{Solid}
 use Rattle.rules.specs.declared.Refused.{Refused}
 use Rattle.rules.specs.Vectors.{_⊕_, dot, origin}
-use Rattle.rules.specs.Solids.{between, permitted, box, inBox, look}
-use Rattle.rules.specs.Asked.{Asked}
-use Rattle.rules.specs.Walk.{Stop, stop, signs, Probe}
-use Rattle.rules.specs.Pick.{isInside, placing, judging}
+use Rattle.rules.specs.Solids.{between, permitted, inBox}
+use Rattle.rules.specs.Walk.{signs}
+use Rattle.rules.specs.Pick.{placing, judging}
 use Rattle.laws.specs.Frames.{signs-are}
 use Rattle.laws.specs.Bounds.{Bounded, bounded-is, bounded-wider}
-use Rattle.laws.specs.Boxes.{look-inside}
-use Rattle.laws.specs.Tally.{Tally, yes, no, Gives, then-yes, then-no, ensured, not-ensured}
 use Rattle.solid.specs.Asks.{PermittedSolid}
 use Rattle.solid.specs.declared.Grid.{Grid}
 use Rattle.solid.specs.Grid.{ranksOf, gridOf, sidesOf, GridRanks}
@@ -25,49 +22,12 @@ use Rattle.solid.specs.Ranks.{in-box-by-grid, rank-by-grid, ranks-small}
 use Rattle.falls.specs.Sizes.{signs-bounded}
 use Rattle.falls.specs.Scene.{probeOf}
 use Rattle.refusals.specs.Refusals.{refusalOf}
+use Rattle.inputs.specs.Judging.{reach-refused, frame-refused, solid-refused, solid-permitted, start-outside-box, apex-outside-box, both-inside, inside-is}
 use Rattle.inputs.specs.declared.Begin.{Begin}
 use Rattle.inputs.specs.declared.Begin.the-variants.{Asked as IsAsked, Handed}
 use Rattle.inputs.specs.declared.Fit.{Fit}
 use Rattle.inputs.specs.declared.Fit.the-variants.{Scene as FitScene, Refused as FitRefused}
 use Rattle.inputs.specs.Inputs.{startOf, apexOf, spanOf, sceneOf, probeJudged, PlacesJudged, InputsJudged}
-
--- ---- refusal 4
-module _ (c : Probe) (p : Vector) where
-  start-outside-box : isInside (c .look p) ≡ false → Gives 0 (placing c p) (no (stop 4 p 0) 0)
-  unfolding placing
-  start-outside-box e = then-no _ (not-ensured e)
-
-  module _ (a : isInside (c .look p) ≡ true) where
-    apex-outside-box : isInside (c .look (c .apex)) ≡ false → Gives 0 (placing c p) (no (stop 4 (c .apex) 0) 0)
-    unfolding placing
-    apex-outside-box e = then-yes _ (ensured (stop 4 p 0) a) (not-ensured e)
-
-    both-inside : isInside (c .look (c .apex)) ≡ true → Gives 0 (placing c p) (yes tt 0)
-    unfolding placing
-    both-inside b = then-yes _ (ensured (stop 4 p 0) a) (ensured (stop 4 (c .apex) 0) b)
-
--- ---- refusals 1, 2, 3
-module _ (allowed : Bool) (c : Probe) (p : Vector) (frame reach : ℤ) where
-  abbrev judgement : Asked Stop (Unit {0})
-  judgement = judging allowed c p frame reach
-
-  reach-refused : between (pos 1) reach (pos 256) ≡ false → Gives 0 judgement (no (stop 1 origin 0) 0)
-  unfolding judging
-  reach-refused e = then-no _ (not-ensured e)
-
-  module _ (a : between (pos 1) reach (pos 256) ≡ true) where
-    frame-refused : between (pos 0) frame (pos 7) ≡ false → Gives 0 judgement (no (stop 2 origin 0) 0)
-    unfolding judging
-    frame-refused e = then-yes _ (ensured (stop 1 origin 0) a) (then-no _ (not-ensured e))
-
-    module _ (b : between (pos 0) frame (pos 7) ≡ true) where
-      solid-refused : allowed ≡ false → Gives 0 judgement (no (stop 3 origin 0) 0)
-      unfolding judging
-      solid-refused e = then-yes _ (ensured (stop 1 origin 0) a) (then-yes _ (ensured (stop 2 origin 0) b) (then-no _ (not-ensured e)))
-
-      solid-permitted : {r : Tally Stop (Unit {0})} → allowed ≡ true → Gives 0 (placing c p) r → Gives 0 judgement r
-      unfolding judging
-      solid-permitted e h = then-yes _ (ensured (stop 1 origin 0) a) (then-yes _ (ensured (stop 2 origin 0) b) (then-yes _ (ensured (stop 3 origin 0) e) h))
 
 -- ---- where the rounds begin
 module _ {begin : Begin} {quick : Bool} {p : Vector} (e : begin ≡ IsAsked quick p) where
@@ -85,9 +45,6 @@ span-high (Handed d) R h = h
 -- ---- from what the tests found to what is promised: the start and the apex, as they were computed and judged
 apex-is : (begin : Begin) (frame : ℕ) {s q : Vector} → s ≡ signs frame → q ≡ apexOf begin s → q ≡ apexOf begin (signs frame)
 apex-is begin frame hs hq = hq ∙ ap (apexOf begin) hs
-
-inside-is : (solid : Solid) (bytes : List ℕ) {a q : Vector} {b t : Bool} → q ≡ a → b ≡ inBox (box solid) q → b ≡ t → isInside (look solid bytes a) ≡ t
-inside-is solid bytes {q = q} e h g = rw (← e) (look-inside solid bytes q ∙ sym h ∙ g)
 
 -- the apex is in the box, so its rank fits
 pub rank-asks : {solid : Solid} {bytes : List ℕ} {grid : Grid} (q : Vector) {b : Bool} → PermittedSolid solid bytes → grid ≡ gridOf solid → b ≡ inBox (sidesOf grid) q → b ≡ true → GridRanks grid × Bounded 10000 q
@@ -126,16 +83,19 @@ pub ruleset placing-judged = (placed-outside, placed-apex-outside)
 -- ---- the inputs
 module _ {begin : Begin} {solid : Solid} {bytes : List ℕ} {frame reach : ℤ} {a : Bool} (ha : a ≡ between (pos 1) reach (pos 256)) where
   pub judged-reach : {r : Refused} → a ≡ false → r ≡ refusalOf 1 origin 0 0 → InputsJudged begin solid bytes frame reach (FitRefused r)
-  judged-reach e f = record { gives = rw f (reach-refused (permitted solid bytes) (probeJudged begin solid bytes frame reach) (startOf begin) frame reach (sym ha ∙ e)); fits = ap (λ (r : Refused). r .looks) f }
+  unfolding judging
+  judged-reach e f = record { gives = rw f (reach-refused (permitted solid bytes) frame reach (placing (probeJudged begin solid bytes frame reach) (startOf begin)) (sym ha ∙ e)); fits = ap (λ (r : Refused). r .looks) f }
 
   module _ {b : Bool} (hb : b ≡ between (pos 0) frame (pos 7)) where
     pub judged-frame : {r : Refused} → a ≡ true → b ≡ false → r ≡ refusalOf 2 origin 0 0 → InputsJudged begin solid bytes frame reach (FitRefused r)
-    judged-frame e g f = record { gives = rw f (frame-refused (permitted solid bytes) (probeJudged begin solid bytes frame reach) (startOf begin) frame reach (sym ha ∙ e) (sym hb ∙ g)); fits = ap (λ (r : Refused). r .looks) f }
+    unfolding judging
+    judged-frame e g f = record { gives = rw f (frame-refused (permitted solid bytes) frame reach (placing (probeJudged begin solid bytes frame reach) (startOf begin)) (sym ha ∙ e) (sym hb ∙ g)); fits = ap (λ (r : Refused). r .looks) f }
 
     module _ {d : Bool} (hd : d ≡ permitted solid bytes) where
       pub judged-solid : {r : Refused} → a ≡ true → b ≡ true → d ≡ false → r ≡ refusalOf 3 origin 0 0 → InputsJudged begin solid bytes frame reach (FitRefused r)
-      judged-solid e g k f = record { gives = rw f (solid-refused (permitted solid bytes) (probeJudged begin solid bytes frame reach) (startOf begin) frame reach (sym ha ∙ e) (sym hb ∙ g) (sym hd ∙ k)); fits = ap (λ (r : Refused). r .looks) f }
+      unfolding judging
+      judged-solid e g k f = record { gives = rw f (solid-refused (permitted solid bytes) frame reach (placing (probeJudged begin solid bytes frame reach) (startOf begin)) (sym ha ∙ e) (sym hb ∙ g) (sym hd ∙ k)); fits = ap (λ (r : Refused). r .looks) f }
 
       pub judged-placed : {r : Fit} → a ≡ true → b ≡ true → d ≡ true → PlacesJudged begin solid bytes (natAbs frame) (natAbs reach) r → InputsJudged begin solid bytes frame reach r
-      unfolding placing
-      judged-placed e g k h = record { gives = solid-permitted (permitted solid bytes) (probeJudged begin solid bytes frame reach) (startOf begin) frame reach (sym ha ∙ e) (sym hb ∙ g) (sym hd ∙ k) (h .gives); fits = h .fits }
+      unfolding placing judging
+      judged-placed e g k h = record { gives = solid-permitted (permitted solid bytes) frame reach (placing (probeJudged begin solid bytes frame reach) (startOf begin)) (sym ha ∙ e) (sym hb ∙ g) (sym hd ∙ k) (h .gives); fits = h .fits }

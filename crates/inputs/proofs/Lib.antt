@@ -1,4 +1,3 @@
--- The frame, the ranges and the refusals, question by question.
+-- The frame and the refusals, question by question.
 pub mod Frames
-pub mod Ranges
 pub mod Judged

@@ -1,4 +1,6 @@
 -- What judging the inputs promises.
+pub mod Ranges
+pub mod Judging
 pub mod Inputs
 pub mod Facts
 pub mod Settled

@@ -31,7 +31,7 @@ fn sign_of(bit: u32) -> i32
     if bit == 0 { 1 } else { -1 }
 }
 
-fn signs_of(frame: u32) -> Vector
+pub fn signs_of(frame: u32) -> Vector
     ensures { λ r. ⌜ r ≡ signs frame ⌝ }
 {
     let x = sign_of(frame % 2);

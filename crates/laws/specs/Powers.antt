@@ -8,6 +8,7 @@ use native.Mathlib.Nat as NatL
 use native.Mathlib.Omega.{arith}
 use lib.Dec.{leb, leb→le, nleb→lt}
 use lib.ListN.{length}
+use borrow.Author.Tests.{le-leb, lt-leb}
 use Rattle.rules.specs.Walk.{powersFrom, powers}
 
 -- l, 2l, 4l, .. up to the first that is at least R
@@ -30,6 +31,17 @@ powers-from (suc fuel) l R h k = go (leb R l) refl (powersFrom fuel (l + l) R) (
 pub powers-reach : (R : ℕ) → UpTo R 1 (powers R)
 unfolding powers
 powers-reach R = powers-from R 1 R (omega arith) (omega arith)
+
+-- ---- one by one: l is the last if it is at least R, else those from 2l on follow, and the first argument has not run out
+pub powers-last : (fuel l R : ℕ) → R ≤ l → powersFrom fuel l R ≡ l ∷ []
+unfolding powersFrom
+powers-last zero l R h = refl
+powers-last (suc fuel) l R h = rw (le-leb R l h)
+
+pub powers-more : (fuel l R : ℕ) → l < R → R ≤ l + fuel → (f : ℕ) × (R ≤ l + suc f) × (powersFrom fuel l R ≡ l ∷ powersFrom f (l + l) R)
+unfolding powersFrom
+powers-more zero l R h k = absurd (omega arith)
+powers-more (suc f) l R h k = (f, k, rw (lt-leb R l h))
 
 -- ---- one of the powers is at least M
 abbrev pub Reaches : ℕ → List ℕ → Type 0

@@ -1,11 +1,11 @@
 -- The powers, counted one by one: before each test the power l is the last of n.
-use mathlib.Core.Path.{_≡_, refl}
-use Prim.Native.Nat.{ℕ, zero, suc, _+_, _≤_, _<_}
+use mathlib.Core.Path.{_≡_, ap}
+use Prim.Native.Nat.{ℕ, _+_, _≤_, _<_}
 use native.Mathlib.Omega.{arith}
 use lib.Dec.{lit<, lit≤}
 use lib.ListN.{length}
-use borrow.Author.Tests.{le-leb, lt-leb}
 use Rattle.rules.specs.Walk.{powersFrom, powers}
+use Rattle.laws.specs.Powers.{powers-last, powers-more}
 
 -- those from l on, and the n - 1 before it, are all
 pub record Counting (R l n : ℕ) : Type 0 where
@@ -20,30 +20,18 @@ pub counting-starts : {R : ℕ} → Counting R 1 1
 unfolding powers
 counting-starts {R} = record { one = lit≤ tt; low = lit< tt; few = lit≤ tt; fuel = R; enough = omega arith; rest = omega arith }
 
--- l is the last if it is at least R
-last : (fuel l R : ℕ) → R ≤ l → length (powersFrom fuel l R) ≡ 1
-unfolding powersFrom
-last zero l R h = refl
-last (suc fuel) l R h = rw (le-leb R l h)
-
--- else fuel is left, and those from 2l on are one less
-more : (fuel l R : ℕ) → l < R → R ≤ l + fuel → (f : ℕ) × (R ≤ l + suc f) × (length (powersFrom fuel l R) ≡ 1 + length (powersFrom f (l + l) R))
-unfolding powersFrom
-more zero l R h k = absurd (omega arith)
-more (suc f) l R h k = (f, k, rw (lt-leb R l h) (omega arith))
-
 module _ {R l n : ℕ} (C : Counting R l n) where
   pub counting-more : l < R → R ≤ 256 → Counting R (l + l) (n + 1)
   counting-more h k =
-      let m = more (C .fuel) l R h (C .enough) in
+      let m = powers-more (C .fuel) l R h (C .enough) in
       record {
         one = omega (arith, C .one);
         low = omega arith;
         few = omega (arith, C .one, C .few);
         fuel = m .0;
         enough = omega (arith, C .one, m .1);
-        rest = omega (arith, C .rest, m .2);
+        rest = omega (arith, C .rest, ap length (m .2));
       }
 
   pub counting-ends : R ≤ l → n ≡ length (powers R)
-  counting-ends h = omega (arith, C .rest, last (C .fuel) l R h)
+  counting-ends h = omega (arith, C .rest, ap length (powers-last (C .fuel) l R h))

@@ -27,7 +27,7 @@ pub enum Round {
 // ---- pairs, by their numbers in the order in which they are asked
 
 // k of the pair (k, l)
-fn first_of(pair: u32) -> u32
+pub fn first_of(pair: u32) -> u32
     requires { ⌜ pair < 6 ⌝ }
     ensures { λ r. ⌜ r ≡ index (from (pairAt pair)) ⌝ }
 {
@@ -35,7 +35,7 @@ fn first_of(pair: u32) -> u32
 }
 
 // l: one of the two other axes, the lower first
-fn second_of(pair: u32) -> u32
+pub fn second_of(pair: u32) -> u32
     requires { ⌜ pair < 6 ⌝ }
     ensures { λ r. ⌜ r ≡ index (to (pairAt pair)) ⌝ }
 {

@@ -1,8 +1,9 @@
 // Whole vectors in i32, and their products. Each function equals the definition of its name, on vectors small enough.
 ghost use mathlib.Core.Path.{_≡_};
-ghost use lib.IntN.{_-ℤ_, _*ℤ_};
+ghost use Prim.Native.Nat.{_≤_};
+ghost use lib.IntN.{pos, _-ℤ_, _*ℤ_};
 ghost use Rattle.integers.specs.Sizes.{Within};
-ghost use Rattle.rules.specs.Vectors.{_⊕_, _⊖_, minus, dot, cross, lay, size};
+ghost use Rattle.rules.specs.Vectors.{_⊕_, _⊖_, minus, scale, dot, cross, lay, size};
 ghost use Rattle.laws.specs.Bounds.{Bounded};
 use rules::Vector;
 use size::size_of;
@@ -37,6 +38,19 @@ pub fn negate(a: Vector) -> Vector
         x: -a.x,
         y: -a.y,
         z: -a.z,
+    }
+}
+
+// So many times.
+pub fn scale(l: u32, a: Vector) -> Vector
+    requires { ⌜ (l ≤ 512) × Bounded 10000 a ⌝ }
+    ensures { λ r. ⌜ r ≡ scale (pos l) a ⌝ }
+{
+    let k = l as i32;
+    Vector {
+        x: k * a.x,
+        y: k * a.y,
+        z: k * a.z,
     }
 }
 

@@ -1,6 +1,6 @@
 -- `facing::face` meets its contract: by the two looks.
 use borrow.Author.Needs.{needs}
-use Rattle.facing.proofs.Facing.{looking}
+use Rattle.facing.specs.Looks.{looking}
 use Rattle.facing.proofs.face.Statement.{statement}
 use Rattle.facing.proofs.face.Tie as tie
 

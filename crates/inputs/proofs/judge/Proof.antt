@@ -3,7 +3,7 @@ use mathlib.Core.Path.{sym, _∙_}
 use native.Mathlib.Omega.{arith}
 use lib.Dec.{lit≤}
 use borrow.Author.Needs.{needs}
-use Rattle.inputs.proofs.Ranges.{range, range-fits}
+use Rattle.inputs.specs.Ranges.{range, range-fits}
 use Rattle.inputs.specs.Facts.{judged-read}
 use Rattle.inputs.proofs.Judged.{judged-reach, judged-frame, judged-solid, judged-placed}
 use Rattle.inputs.proofs.judge.Statement.{statement}

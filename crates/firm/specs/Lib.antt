@@ -1,0 +1,3 @@
+-- What is promised of a firm footing, function by function.
+pub mod Firm
+pub mod Settled
