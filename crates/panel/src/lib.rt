@@ -1,9 +1,10 @@
 // The panel's C interface (include/ulgenzhir.h): thin over the core, each answer flattened (crate `flat`).
 ghost use mathlib.Core.Path.{_≡_};
 ghost use Rattle.rules.specs.Vectors.{vector};
-ghost use Rattle.panel.specs.Promises.{wedge, stack, PickedWedge, PickedStack, TouchedWedge, TouchedStack, CheckedWedge, CheckedStack, WalkedWedge, WalkedStack, KnewLean, ReadP4, WroteP4, Displayed};
+ghost use Rattle.panel.specs.Promises.{wedge, stack, PickedWedge, PickedStack, TouchedWedge, TouchedStack, CheckedWedge, CheckedStack, WalkedWedge, WalkedStack, KnewLean, FirmedWedge, FirmedStack, ReadP4, WroteP4, Displayed};
 use flat::FlatCheck;
 use flat::FlatDisplay;
+use flat::FlatFirm;
 use flat::FlatLean;
 use flat::FlatPick;
 use flat::FlatReading;
@@ -199,6 +200,40 @@ pub extern "C" fn ulgenzhir_known_lean(pick: FlatPick, reach: i32) -> FlatLean
 {
     let answer = flat::handed_pick(pick);
     flat::flatten_lean(lean::known_lean(answer, reach))
+}
+
+#[no_mangle]
+pub extern "C" fn ulgenzhir_firm_wedge(
+    a: i32,
+    b: i32,
+    c: i32,
+    h: i32,
+    pick: FlatPick,
+    frame: i32,
+    reach: i32,
+) -> FlatFirm
+    ensures { λ r. ⌜ FirmedWedge (wedge a b c h) pick frame reach r ⌝ }
+{
+    let w = wedge_of(a, b, c, h);
+    let answer = flat::handed_pick(pick);
+    flat::flatten_firm(firm::firm_wedge(w, answer, frame, reach))
+}
+
+#[no_mangle]
+pub extern "C" fn ulgenzhir_firm_stack(
+    width: i32,
+    height: i32,
+    depth: i32,
+    bytes: &[u8],
+    pick: FlatPick,
+    frame: i32,
+    reach: i32,
+) -> FlatFirm
+    ensures { λ r. ⌜ FirmedStack (stack width height depth) (now (bytes .entry)) pick frame reach r ⌝ }
+{
+    let k = stack_of(width, height, depth);
+    let answer = flat::handed_pick(pick);
+    flat::flatten_firm(firm::firm_stack(k, bytes, answer, frame, reach))
 }
 
 #[no_mangle]
