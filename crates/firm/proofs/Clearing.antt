@@ -12,7 +12,7 @@ use Rattle.rules.specs.declared.Refused.{Refused}
 use Rattle.rules.specs.Solids.{inBox, look}
 use Rattle.rules.specs.Pick.{isInside}
 use Rattle.laws.specs.Tally.{then-yes, then-no}
-use Rattle.solid.specs.Asks.{PermittedSolid, InBoxOf}
+use Rattle.solid.specs.Asks.{PermittedSolid}
 use Rattle.solid.specs.declared.Grid.{Grid}
 use Rattle.solid.specs.Grid.{gridOf, sidesOf}
 use Rattle.solid.specs.Ranks.{in-box-by-grid}
@@ -43,30 +43,30 @@ judged {solid} {bytes} p ok hg ha e = inside-is solid bytes refl (in-box-by-grid
 
 module _ {solid : Solid} {bytes : List ℕ} {grid : Grid} {p q : Vector} {a : Bool} (ok : PermittedSolid solid bytes) (hg : grid ≡ gridOf solid) (ha : a ≡ inBox (sidesOf grid) p) where
   pub clear-start-outside : {r : Refused} → a ≡ false → r ≡ refusalOf 4 p 0 0 → StartCleared solid bytes p q (IsRefused r)
-  clear-start-outside e f = record { is = λ s ls x. rw f (then-no _ (start-outside-box (probeAt solid bytes q s ls) p (judged p ok hg ha e))); places = tt }
+  clear-start-outside e f = record { is = λ s ls x. rw f (then-no _ (start-outside-box (probeAt solid bytes q s ls) p (judged p ok hg ha e))); place = tt }
 
   module _ {b : Bool} (e : a ≡ true) (hb : b ≡ inBox (sidesOf grid) q) where
     pub clear-apex-outside : {r : Refused} → b ≡ false → r ≡ refusalOf 4 q 0 0 → StartCleared solid bytes p q (IsRefused r)
-    clear-apex-outside g f = record { is = λ s ls x. rw f (then-no _ (apex-outside-box (probeAt solid bytes q s ls) p (judged p ok hg ha e) (judged q ok hg hb g))); places = tt }
+    clear-apex-outside g f = record { is = λ s ls x. rw f (then-no _ (apex-outside-box (probeAt solid bytes q s ls) p (judged p ok hg ha e) (judged q ok hg hb g))); place = tt }
 
     module _ {h : Bool} (g : b ≡ true) (hh : h ≡ filledAs (look solid bytes p)) where
       pub clear-start-empty : {r : Refused} → h ≡ false → r ≡ refusalOf 5 p 0 1 → StartCleared solid bytes p q (IsRefused r)
       clear-start-empty i f = record {
         is = λ s ls x. let c = probeAt solid bytes q s ls in then-yes _ (both-inside c p (judged p ok hg ha e) (judged q ok hg hb g)) (then-no _ (Looks.start-empty {c = c} refl (is-empty _ (judged p ok hg ha e) (sym hh ∙ i)) f .gives));
-        places = tt;
+        place = tt;
       }
 
       module _ {k : Bool} (i : h ≡ true) (hk : k ≡ filledAs (look solid bytes q)) where
         pub clear-apex-filled : {r : Refused} → k ≡ true → r ≡ refusalOf 6 q 0 2 → StartCleared solid bytes p q (IsRefused r)
         clear-apex-filled j f = record {
           is = λ s ls x. let c = probeAt solid bytes q s ls in then-yes _ (both-inside c p (judged p ok hg ha e) (judged q ok hg hb g)) (then-no _ (Looks.apex-filled {c = c} refl (is-filled _ (sym hh ∙ i)) refl (is-filled _ (sym hk ∙ j)) f .gives));
-          places = tt;
+          place = tt;
         }
 
         pub clear-both : k ≡ false → StartCleared solid bytes p q (Clear 2)
         clear-both j = record {
           is = λ s ls x. let c = probeAt solid bytes q s ls in then-yes _ (both-inside c p (judged p ok hg ha e) (judged q ok hg hb g)) (then-yes _ (Looks.apex-empty {c = c} refl (is-filled _ (sym hh ∙ i)) refl (is-empty _ (judged q ok hg hb g) (sym hk ∙ j)) .gives) (record { is = refl }));
-          places = (record { is = sym (in-box-by-grid p ok hg ha) ∙ e }, record { is = sym (in-box-by-grid q ok hg hb) ∙ g }, lit≤ tt);
+          place = (record { is = sym (in-box-by-grid p ok hg ha) ∙ e }, lit≤ tt);
         }
 
 pub ruleset clearing = (clear-start-outside, clear-apex-outside, clear-start-empty, clear-apex-filled, clear-both)

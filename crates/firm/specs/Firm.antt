@@ -1,5 +1,4 @@
 -- A firm footing: what the start's refusals, the footing and its bound, and the whole question tell.
-use mathlib.Core.Path.{_≡_}
 use mathlib.Core.Bool.{Bool, true, false}
 use mathlib.Core.List.{List, []}
 use Prim.Native.Nat.{ℕ, _≤_}
@@ -51,10 +50,10 @@ abbrev pub cleared : Asked Stop (ℕ × Bound) → Tally Stop (Unit {0}) → Tal
 cleared x (yes t n) = tally n x
 cleared x (no s n) = no s n
 
--- where none is refused both are in the box, after two looks
-abbrev pub ClearAt : Solid → Vector → Vector → Cleared → Type 0
-ClearAt solid p q (Clear n) = InBoxOf solid p × InBoxOf solid q × (n ≤ 2)
-ClearAt solid p q (IsRefused r) = Unit {0}
+-- where none is refused the start is in the box, after two looks
+abbrev pub ClearAt : Solid → Vector → Cleared → Type 0
+ClearAt solid p (Clear n) = InBoxOf solid p × (n ≤ 2)
+ClearAt solid p (IsRefused r) = Unit {0}
 
 module _ (solid : Solid) (bytes : List ℕ) where
   -- whatever the signs s and the powers are
@@ -63,7 +62,7 @@ module _ (solid : Solid) (bytes : List ℕ) where
 
   pub record StartCleared (p q : Vector) (r : Cleared) : Type 0 where
     pub is : (s : Vector) (ls : List ℕ) (x : Asked Stop (ℕ × Bound)) → Gives 0 (placing (probeAt q s ls) p >> (facing (probeAt q s ls) p >> x)) (cleared x (clearedTally r))
-    pub places : ClearAt solid p q r
+    pub place : ClearAt solid p r
 
 -- ---- the footing
 pub record StoodOn (g : Ground) (bytes : List ℕ) (a : AcceptedPick) (reach looks : ℕ) (r : Footing) : Type 0 where

@@ -112,7 +112,15 @@ fn stand_on(ground: Ground, bytes: &[u8], a: Accepted, reach: u32, looks: u32) -
 }
 
 // Of an accepted answer that can be measured, from the start p.
-fn firm_from(solid: Solid, grid: Grid, bytes: &[u8], a: Accepted, s: Vector, p: Vector, reach: u32) -> Firm
+fn firm_from(
+    solid: Solid,
+    grid: Grid,
+    bytes: &[u8],
+    a: Accepted,
+    s: Vector,
+    p: Vector,
+    reach: u32,
+) -> Firm
     requires { ⌜ PermittedSolid solid (now bytes) × (grid ≡ gridOf solid) × (measurable a ≡ true) × Bounded 1 s × (reach ≤ 256) ⌝ }
     ensures { λ r. ⌜ FirmFrom solid (now (bytes .entry)) a s p reach r ⌝ }
 {
