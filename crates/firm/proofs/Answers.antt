@@ -27,7 +27,7 @@ use Rattle.rules.specs.Pick.{refusedAnswer}
 use Rattle.rules.specs.Firm.{firmUnder, firmOn, firm, firmAnswer, firmOf, WedgeFirmPromise, StackFirmPromise}
 use Rattle.laws.specs.Tally.{Tally, yes, no, tally, Gives, refused-at-once}
 use Rattle.inputs.specs.Judging.{reach-refused, frame-refused, solid-refused, solid-permitted}
-use Rattle.firm.specs.Firm.{firmTally, refusedWith, FirmUnder, FirmOn}
+use Rattle.firm.specs.Firm.{firmTally, refusedWith, FirmUnder, FirmOf, FirmOn}
 
 -- ---- numbers as they were read from bits
 abbrev bits : ℤ → ℤ
@@ -36,9 +36,25 @@ bits z = toZ w32 (ofZ w32 z)
 firm-read : {solid : Solid} {bytes : List ℕ} {pick : Pick} {frame reach : ℤ} {r : Firm} → SFits w32 frame → SFits w32 reach → FirmOn solid bytes pick (bits frame) (bits reach) r → FirmOn solid bytes pick frame reach r
 firm-read f g h = rw (toZ-ofZ f, toZ-ofZ g) at h
 
+-- ---- a refused pick has no footing
+module _ {solid : Solid} {bytes : List ℕ} {pick : Pick} {frame reach : ℕ} where
+  pub of-refused : {t : RefusedPick} {r : Firm} → pick ≡ Refused t → r ≡ refusedWith 35 → FirmOf solid bytes pick frame reach r
+  of-refused j f = record { gives = rw (j, f) refused-at-once }
+
+  pub of-accepted : {t : AcceptedPick} {r : Firm} → pick ≡ Accepted t → FirmUnder solid bytes t frame reach r → FirmOf solid bytes pick frame reach r
+  of-accepted j h = record { gives = rw j (h .gives) }
+
+pub ruleset of-answer = (of-refused, of-accepted)
+
 -- ---- the refusals, and the rest after 1, 2 and 3
 abbrev rest : Solid → List ℕ → Pick → ℤ → ℤ → Asked Stop (ℕ × Bound)
 rest solid bytes pick frame reach = firmOn (permitted solid bytes) (look solid bytes) frame reach pick
+
+-- only the sizes of the frame and of the reach are read
+of-size : {solid : Solid} {bytes : List ℕ} (frame reach : ℤ) (pick : Pick) {r : Firm} → FirmOf solid bytes pick (natAbs frame) (natAbs reach) r → Gives 0 (rest solid bytes pick frame reach) (firmTally r)
+unfolding firmUnder
+of-size frame reach (Accepted a) h = h .gives
+of-size frame reach (Refused t) h = h .gives
 
 module _ {solid : Solid} {bytes : List ℕ} {pick : Pick} {frame reach : ℤ} {a : Bool} (m : SFits w32 frame) (n : SFits w32 reach) (ha : a ≡ between (pos 1) (bits reach) (pos 256)) where
   pub on-reach : {r : Firm} → a ≡ false → r ≡ refusedWith 1 → FirmOn solid bytes pick frame reach r
@@ -56,18 +72,11 @@ module _ {solid : Solid} {bytes : List ℕ} {pick : Pick} {frame reach : ℤ} {a
       on-solid i f = firm-read m n (record { gives = rw f (solid-refused (permitted solid bytes) (bits frame) (bits reach) (rest solid bytes pick (bits frame) (bits reach)) (sym ha ∙ e) (sym hb ∙ g) (sym hd ∙ i)) })
 
       module _ (i : d ≡ true) where
-        on-rest : {r : Firm} → Gives 0 (rest solid bytes pick (bits frame) (bits reach)) (firmTally r) → FirmOn solid bytes pick frame reach r
+        pub on-answer : {r : Firm} → FirmOf solid bytes pick (natAbs (bits frame)) (natAbs (bits reach)) r → FirmOn solid bytes pick frame reach r
         unfolding firm
-        on-rest h = firm-read m n (record { gives = solid-permitted (permitted solid bytes) (bits frame) (bits reach) (rest solid bytes pick (bits frame) (bits reach)) (sym ha ∙ e) (sym hb ∙ g) (sym hd ∙ i) h })
+        on-answer h = firm-read m n (record { gives = solid-permitted (permitted solid bytes) (bits frame) (bits reach) (rest solid bytes pick (bits frame) (bits reach)) (sym ha ∙ e) (sym hb ∙ g) (sym hd ∙ i) (of-size (bits frame) (bits reach) pick h) })
 
-        pub on-refused : {t : RefusedPick} {r : Firm} → pick ≡ Refused t → r ≡ refusedWith 35 → FirmOn solid bytes pick frame reach r
-        on-refused j f = on-rest (rw (j, f) refused-at-once)
-
-        pub on-accepted : {t : AcceptedPick} {r : Firm} → pick ≡ Accepted t → FirmUnder solid bytes t (natAbs (bits frame)) (natAbs (bits reach)) r → FirmOn solid bytes pick frame reach r
-        unfolding firmUnder
-        on-accepted j h = on-rest (rw j (h .gives))
-
-pub ruleset on = (on-reach, on-frame, on-solid, on-refused, on-accepted)
+pub ruleset on = (on-reach, on-frame, on-solid, on-answer)
 
 -- ---- the answer
 made : Tally Stop (ℕ × Bound) → Firm

@@ -19,13 +19,13 @@ use Rattle.rules.specs.Asked.{Asked, answered, _>>=_, _>>_}
 use Rattle.rules.specs.Walk.{Stop, signs, powers, Probe, facing}
 use Rattle.rules.specs.Pick.{placing}
 use Rattle.rules.specs.Lean.{boundAt}
-use Rattle.rules.specs.Firm.{allWays, footing, firmFrom, startUnder, firmUnder, firm}
+use Rattle.rules.specs.Firm.{allWays, footing, firmFrom, startUnder, firmUnder, firmOn, firm}
 use Rattle.laws.specs.Tally.{Tally, yes, no, tally, Gives}
 use Rattle.solid.specs.Asks.{InBoxOf}
 use Rattle.refusals.specs.Refusals.{refusalOf, refusalTally}
 use Rattle.facing.specs.declared.Cleared.{Cleared}
 use Rattle.facing.specs.declared.Cleared.the-variants.{Clear, Refused as IsRefused}
-use Rattle.facing.specs.Facing.{clearedTally}
+use Rattle.facing.specs.Facing.{clearedTally, FacingAsked}
 use Rattle.footing.specs.declared.Ground.{Ground}
 use Rattle.footing.specs.Footing.{vectorsOf}
 
@@ -60,6 +60,9 @@ module _ (solid : Solid) (bytes : List ℕ) where
   abbrev pub probeAt : Vector → Vector → List ℕ → Probe
   probeAt q s ls = record { look = look solid bytes; apex = q; signs = s; powers = ls }
 
+  pub record StartFaced (p q : Vector) (r : Cleared) : Type 0 where
+    pub is : (s : Vector) (ls : List ℕ) → FacingAsked (probeAt q s ls) p r
+
   pub record StartCleared (p q : Vector) (r : Cleared) : Type 0 where
     pub is : (s : Vector) (ls : List ℕ) (x : Asked Stop (ℕ × Bound)) → Gives 0 (placing (probeAt q s ls) p >> (facing (probeAt q s ls) p >> x)) (cleared x (clearedTally r))
     pub place : ClearAt solid p r
@@ -78,6 +81,9 @@ module _ (solid : Solid) (bytes : List ℕ) where
 
   pub record FirmUnder (a : AcceptedPick) (frame reach : ℕ) (r : Firm) : Type 0 where
     pub gives : Gives 0 (firmUnder (permitted solid bytes) (look solid bytes) (pos frame) (pos reach) a (startUnder (a .apex) (signs frame))) (firmTally r)
+
+  pub record FirmOf (pick : Pick) (frame reach : ℕ) (r : Firm) : Type 0 where
+    pub gives : Gives 0 (firmOn (permitted solid bytes) (look solid bytes) (pos frame) (pos reach) pick) (firmTally r)
 
   pub record FirmOn (pick : Pick) (frame reach : ℤ) (r : Firm) : Type 0 where
     pub gives : Gives 0 (firm (permitted solid bytes) (look solid bytes) frame reach pick) (firmTally r)

@@ -7,33 +7,28 @@ use Rattle.firm.proofs.Answers.{on}
 use Rattle.firm.proofs.firm_on.Statement.{statement}
 use Rattle.firm.proofs.firm_on.Tie as tie
 
-frame-fits : tie.Need-cast-firm-under
+frame-fits : tie.Need-cast-firm-of
 frame-fits c =
-    let d = c .before .before .before .before .before in
+    let d = c .before .before in
     range-fits (range _ _ _ (sym (d .before .is-between2 .ensures) ∙ d .if2 .taken)) (lit≤ tt)
 
-reach-fits : tie.Need-cast-firm-under-2
+reach-fits : tie.Need-cast-firm-of-2
 reach-fits c =
-    let d = c .before .before .before .before .before .before .before in
+    let d = c .before .before .before .before in
     range-fits (range _ _ _ (sym (d .before .is-between .ensures) ∙ d .if1 .taken)) (lit≤ tt)
 
-permitted-and-reach-small : tie.Need-firm-under-requires
+permitted-and-reach-small : tie.Need-firm-of-requires
 permitted-and-reach-small c κs =
-    let d = c .before .before .before in
-    let reach = d .before .before .before .before in
-    (record { is = sym (d .before .is-permitted .ensures) ∙ d .if3 .taken }, range _ _ _ (sym (reach .before .is-between .ensures) ∙ reach .if1 .taken) .at-most)
+    let reach = c .before .before .before .before in
+    (record { is = sym (c .before .is-permitted .ensures) ∙ c .if3 .taken }, range _ _ _ (sym (reach .before .is-between .ensures) ∙ reach .if1 .taken) .at-most)
 
-pick-refused : tie.Need-returns-2
-pick-refused c = search on
-
-solid-refused : tie.Need-returns-3
+solid-refused : tie.Need-returns-2
 solid-refused c = search on
 
 pub firm-on-spec : {M : Type 1} → statement M
 firm-on-spec =
     tie.close
     (tie.spec
-    (λ c κs. search needs) (λ c κs. search needs) (λ c κs. search needs) (λ c. search needs) frame-fits reach-fits
-    permitted-and-reach-small
-    (λ c. search needs) (λ c κs. search needs) (λ c κs. search needs) (λ c κs. search needs) (λ c κs. search needs)
-    (λ c. search on) pick-refused solid-refused (λ c. search on) (λ c. search on))
+    (λ c κs. search needs) (λ c κs. search needs) (λ c κs. search needs) frame-fits reach-fits permitted-and-reach-small
+    (λ c κs. search needs) (λ c κs. search needs) (λ c κs. search needs)
+    (λ c. search on) solid-refused (λ c. search on) (λ c. search on))
