@@ -1,7 +1,7 @@
 -- The footing of an accepted answer: refusal 35, the start's refusals, or the last power at which all stands, with the bound at it.
-use mathlib.Core.Path.{_≡_, sym, ap, _∙_}
+use mathlib.Core.Path.{_≡_, sym, _∙_}
 use mathlib.Core.Bool.{Bool, true, false}
-use mathlib.Core.List.{List, [], map}
+use mathlib.Core.List.{List}
 use Prim.Native.Nat.{ℕ, _+_, _≤_}
 use native.Mathlib.Omega.{arith}
 use Rattle.rules.specs.declared.Vector.{Vector}
@@ -14,12 +14,9 @@ use Rattle.rules.specs.declared.Footing.{Footing}
 use Rattle.rules.specs.declared.Firm.{Firm}
 use Rattle.rules.specs.declared.Firm.the-variants.{Stands, Refused}
 use Rattle.rules.specs.Vectors.{origin}
-use Rattle.rules.specs.Solids.{look}
-use Rattle.rules.specs.Asked.{Asked, answered, _>>=_, _>>_}
-use Rattle.rules.specs.Walk.{Stop, stop, signs, only, powers, facing}
-use Rattle.rules.specs.Pick.{placing}
+use Rattle.rules.specs.Walk.{stop, signs, powers}
 use Rattle.rules.specs.Lean.{levelsOf, measurable, boundAt}
-use Rattle.rules.specs.Firm.{allWays, belongs, wayOf, footing, firmFrom, startUnder, firmUnder}
+use Rattle.rules.specs.Firm.{footing, startUnder, firmUnder}
 use Rattle.laws.specs.Frames.{signs-are}
 use Rattle.laws.specs.Bounds.{Bounded}
 use Rattle.laws.specs.Tally.{tally, then-yes, then-no, at-once, ensured, not-ensured}
@@ -33,7 +30,7 @@ use Rattle.facing.specs.declared.Cleared.the-variants.{Clear, Refused as IsRefu
 use Rattle.lean.specs.Sizes.{measured}
 use Rattle.footing.specs.declared.Ground.{Ground}
 use Rattle.footing.specs.declared.Footed.{Footed}
-use Rattle.footing.specs.Footing.{Grounded, vectorsOf, FirmTo}
+use Rattle.footing.specs.Footing.{Grounded, FirmTo}
 use Rattle.firm.specs.Firm.{footingTally, refusedWith, standing, StartCleared, StoodOn, FirmFrom, FirmUnder}
 
 -- ---- the footing, with its bound
@@ -63,10 +60,10 @@ pub ruleset standing-from = (from-refused, from-stands)
 
 module _ {solid : Solid} {bytes : List ℕ} {p q : Vector} {k : Cleared} {n : ℕ} (h : StartCleared solid bytes p q k) (g : k ≡ Clear n) where
   pub grounded : (a : AcceptedPick) {grid : Grid} {s : Vector} {v : Levels} → PermittedSolid solid bytes → grid ≡ gridOf solid → measurable a ≡ true → Bounded 1 s → Grounded (ground solid grid a s p v) bytes
-  grounded a ok hg e b = record { permitted = ok; gridded = hg; started = inside-bounded ok ((rw g at (h .places)) .0); signed = b; sized = measured e .triangle-low }
+  grounded a ok hg e b = record { permitted = ok; gridded = hg; started = inside-bounded ok ((rw g at (h .place)) .0); signed = b; sized = measured e .triangle-low }
 
   pub looks-low : n + 6144 ≤ 4294967295
-  looks-low = omega (arith, (rw g at (h .places)) .2)
+  looks-low = omega (arith, (rw g at (h .place)) .1)
 
 pub ruleset granted = (grounded, looks-low)
 

@@ -1,5 +1,4 @@
 -- A firm footing: what the start's refusals, the footing and its bound, and the whole question tell.
-use mathlib.Core.Path.{_≡_}
 use mathlib.Core.Bool.{Bool, true, false}
 use mathlib.Core.List.{List, []}
 use Prim.Native.Nat.{ℕ, _≤_}
@@ -20,13 +19,13 @@ use Rattle.rules.specs.Asked.{Asked, answered, _>>=_, _>>_}
 use Rattle.rules.specs.Walk.{Stop, signs, powers, Probe, facing}
 use Rattle.rules.specs.Pick.{placing}
 use Rattle.rules.specs.Lean.{boundAt}
-use Rattle.rules.specs.Firm.{allWays, footing, firmFrom, startUnder, firmUnder, firm}
+use Rattle.rules.specs.Firm.{allWays, footing, firmFrom, startUnder, firmUnder, firmOn, firm}
 use Rattle.laws.specs.Tally.{Tally, yes, no, tally, Gives}
 use Rattle.solid.specs.Asks.{InBoxOf}
 use Rattle.refusals.specs.Refusals.{refusalOf, refusalTally}
 use Rattle.facing.specs.declared.Cleared.{Cleared}
 use Rattle.facing.specs.declared.Cleared.the-variants.{Clear, Refused as IsRefused}
-use Rattle.facing.specs.Facing.{clearedTally}
+use Rattle.facing.specs.Facing.{clearedTally, FacingAsked}
 use Rattle.footing.specs.declared.Ground.{Ground}
 use Rattle.footing.specs.Footing.{vectorsOf}
 
@@ -51,19 +50,22 @@ abbrev pub cleared : Asked Stop (ℕ × Bound) → Tally Stop (Unit {0}) → Tal
 cleared x (yes t n) = tally n x
 cleared x (no s n) = no s n
 
--- where none is refused both are in the box, after two looks
-abbrev pub ClearAt : Solid → Vector → Vector → Cleared → Type 0
-ClearAt solid p q (Clear n) = InBoxOf solid p × InBoxOf solid q × (n ≤ 2)
-ClearAt solid p q (IsRefused r) = Unit {0}
+-- where none is refused the start is in the box, after two looks
+abbrev pub ClearAt : Solid → Vector → Cleared → Type 0
+ClearAt solid p (Clear n) = InBoxOf solid p × (n ≤ 2)
+ClearAt solid p (IsRefused r) = Unit {0}
 
 module _ (solid : Solid) (bytes : List ℕ) where
   -- whatever the signs s and the powers are
   abbrev pub probeAt : Vector → Vector → List ℕ → Probe
   probeAt q s ls = record { look = look solid bytes; apex = q; signs = s; powers = ls }
 
+  pub record StartFaced (p q : Vector) (r : Cleared) : Type 0 where
+    pub is : (s : Vector) (ls : List ℕ) → FacingAsked (probeAt q s ls) p r
+
   pub record StartCleared (p q : Vector) (r : Cleared) : Type 0 where
     pub is : (s : Vector) (ls : List ℕ) (x : Asked Stop (ℕ × Bound)) → Gives 0 (placing (probeAt q s ls) p >> (facing (probeAt q s ls) p >> x)) (cleared x (clearedTally r))
-    pub places : ClearAt solid p q r
+    pub place : ClearAt solid p r
 
 -- ---- the footing
 pub record StoodOn (g : Ground) (bytes : List ℕ) (a : AcceptedPick) (reach looks : ℕ) (r : Footing) : Type 0 where
@@ -79,6 +81,9 @@ module _ (solid : Solid) (bytes : List ℕ) where
 
   pub record FirmUnder (a : AcceptedPick) (frame reach : ℕ) (r : Firm) : Type 0 where
     pub gives : Gives 0 (firmUnder (permitted solid bytes) (look solid bytes) (pos frame) (pos reach) a (startUnder (a .apex) (signs frame))) (firmTally r)
+
+  pub record FirmOf (pick : Pick) (frame reach : ℕ) (r : Firm) : Type 0 where
+    pub gives : Gives 0 (firmOn (permitted solid bytes) (look solid bytes) (pos frame) (pos reach) pick) (firmTally r)
 
   pub record FirmOn (pick : Pick) (frame reach : ℤ) (r : Firm) : Type 0 where
     pub gives : Gives 0 (firm (permitted solid bytes) (look solid bytes) frame reach pick) (firmTally r)

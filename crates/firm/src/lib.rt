@@ -8,10 +8,10 @@ ghost use Rattle.rules.specs.Solids.{look};
 ghost use Rattle.rules.specs.Lean.{measurable};
 ghost use Rattle.rules.specs.Firm.{held, startUnder, WedgeFirmPromise, StackFirmPromise};
 ghost use Rattle.laws.specs.Bounds.{Bounded};
-ghost use Rattle.solid.specs.Asks.{PermittedSolid};
+ghost use Rattle.solid.specs.Asks.{PermittedSolid, InBoxOf};
 ghost use Rattle.solid.specs.Grid.{gridOf};
 ghost use Rattle.footing.specs.Footing.{Grounded};
-ghost use Rattle.firm.specs.Firm.{refusedWith, filledAs, StartCleared, StoodOn, FirmFrom, FirmUnder, FirmOn};
+ghost use Rattle.firm.specs.Firm.{refusedWith, filledAs, StartFaced, StartCleared, StoodOn, FirmFrom, FirmUnder, FirmOf, FirmOn};
 use facing::Cleared;
 use footing::Ground;
 use rules::Accepted;
@@ -71,22 +71,30 @@ fn is_filled(solid: Solid, grid: Grid, bytes: &[u8], v: Vector) -> bool
     }
 }
 
-// Refusal 4 at p, else at q; 5 after a look at p, 6 after one more at q.
+// Refusal 5 after a look at p, 6 after one more at q.
+fn face(solid: Solid, grid: Grid, bytes: &[u8], p: Vector, q: Vector) -> Cleared
+    requires { ⌜ PermittedSolid solid (now bytes) × (grid ≡ gridOf solid) × InBoxOf solid p × InBoxOf solid q ⌝ }
+    ensures { λ r. ⌜ StartFaced solid (now (bytes .entry)) p q r ⌝ }
+{
+    if is_filled(solid, grid, bytes, p) {
+        if is_filled(solid, grid, bytes, q) {
+            Cleared::Refused(refusals::refusal(6, q, 0, 2))
+        } else {
+            Cleared::Clear(2)
+        }
+    } else {
+        Cleared::Refused(refusals::refusal(5, p, 0, 1))
+    }
+}
+
+// Refusal 4 at p, else at q, before they are looked at.
 fn clear(solid: Solid, grid: Grid, bytes: &[u8], p: Vector, q: Vector) -> Cleared
     requires { ⌜ PermittedSolid solid (now bytes) × (grid ≡ gridOf solid) ⌝ }
     ensures { λ r. ⌜ StartCleared solid (now (bytes .entry)) p q r ⌝ }
 {
     if solid::is_inside(grid, p) {
         if solid::is_inside(grid, q) {
-            if is_filled(solid, grid, bytes, p) {
-                if is_filled(solid, grid, bytes, q) {
-                    Cleared::Refused(refusals::refusal(6, q, 0, 2))
-                } else {
-                    Cleared::Clear(2)
-                }
-            } else {
-                Cleared::Refused(refusals::refusal(5, p, 0, 1))
-            }
+            face(solid, grid, bytes, p, q)
         } else {
             Cleared::Refused(refusals::refusal(4, q, 0, 0))
         }
@@ -160,6 +168,17 @@ fn firm_under(solid: Solid, bytes: &[u8], a: Accepted, frame: u32, reach: u32) -
     }
 }
 
+// A refused pick has no footing.
+fn firm_of(solid: Solid, bytes: &[u8], answer: Pick, frame: u32, reach: u32) -> Firm
+    requires { ⌜ PermittedSolid solid (now bytes) × (reach ≤ 256) ⌝ }
+    ensures { λ r. ⌜ FirmOf solid (now (bytes .entry)) answer frame reach r ⌝ }
+{
+    match answer {
+        Pick::Accepted(a) => firm_under(solid, bytes, a, frame, reach),
+        Pick::Refused(_) => refuse(35),
+    }
+}
+
 // Of any answer: refusals 1, 2 and 3 as a pick's, then 35.
 fn firm_on(solid: Solid, bytes: &[u8], answer: Pick, frame: i32, reach: i32) -> Firm
     ensures { λ r. ⌜ FirmOn solid (now (bytes .entry)) answer frame reach r ⌝ }
@@ -167,10 +186,7 @@ fn firm_on(solid: Solid, bytes: &[u8], answer: Pick, frame: i32, reach: i32) -> 
     if range::is_between(1, reach, 256) {
         if range::is_between(0, frame, 7) {
             if solid::is_permitted(solid, bytes) {
-                match answer {
-                    Pick::Accepted(a) => firm_under(solid, bytes, a, frame as u32, reach as u32),
-                    Pick::Refused(_) => refuse(35),
-                }
+                firm_of(solid, bytes, answer, frame as u32, reach as u32)
             } else {
                 refuse(3)
             }

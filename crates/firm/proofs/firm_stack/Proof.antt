@@ -4,5 +4,8 @@ use Rattle.firm.proofs.Answers.{of-stack}
 use Rattle.firm.proofs.firm_stack.Statement.{statement}
 use Rattle.firm.proofs.firm_stack.Tie as tie
 
+as-its-solid : tie.Need-returns
+as-its-solid c = search of-stack
+
 pub firm-stack-spec : {M : Type 1} → statement M
-firm-stack-spec = tie.close (tie.spec (λ c κs. search needs) (λ c. search of-stack))
+firm-stack-spec = tie.close (tie.spec (λ c κs. search needs) as-its-solid)

@@ -11,9 +11,12 @@ firm-from-requires c κs =
     let e = sym (measured .before .is-measurable .ensures) ∙ measured .if1 .taken in
     search signs-small
 
+from-the-start : tie.Need-returns
+from-the-start c = search under
+
 pub firm-under-spec : {M : Type 1} → statement M
 firm-under-spec =
     tie.close
     (tie.spec
     (λ c κs. search needs) (λ c κs. search needs) (λ c κs. search signs-small) (λ c κs. search needs)
-    firm-from-requires (λ c κs. search needs) (λ c. search under) (λ c. search under))
+    firm-from-requires (λ c κs. search needs) from-the-start (λ c. search under))
