@@ -35,7 +35,7 @@ named : {i : ℕ} (k : Axis) → i ≡ index k → axisAt i ≡ k
 named k e = ap axisAt e ∙ axis-named k
 
 -- ---- the ways of the pairs
-pub sideways-at : (i : ℕ) → i < 6 → wayAt i ≡ sideways (pairAt i)
+sideways-at : (i : ℕ) → i < 6 → wayAt i ≡ sideways (pairAt i)
 sideways-at = by-number (λ i. wayAt i ≡ sideways (pairAt i)) refl refl refl refl refl refl
 
 pub vector-fits : {m : Triangle} (k : Axis) {a : Vector} → All (Bounded 2046) m → a ≡ vectorOf m k → Bounded 1000000000 a
