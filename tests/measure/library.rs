@@ -1,6 +1,6 @@
 //! The panel's library as include/ulgenzhir.h tells it.
 
-use crate::answers::{Check, Lit, Pick, Read, Ready, Touch, Written};
+use crate::answers::{Check, Firm, Lean, Lit, Pick, Read, Ready, Touch, Written};
 
 // Safe: a Rust slice's pointer is never null, and a `&mut` slice overlaps no other.
 
@@ -74,6 +74,26 @@ extern "C" {
         frame: i32,
         reach: i32,
     ) -> Pick;
+    fn ulgenzhir_known_lean(pick: Pick, reach: i32) -> Lean;
+    fn ulgenzhir_firm_wedge(
+        a: i32,
+        b: i32,
+        c: i32,
+        h: i32,
+        pick: Pick,
+        frame: i32,
+        reach: i32,
+    ) -> Firm;
+    fn ulgenzhir_firm_stack(
+        width: i32,
+        height: i32,
+        depth: i32,
+        bytes: *const u8,
+        len: usize,
+        pick: Pick,
+        frame: i32,
+        reach: i32,
+    ) -> Firm;
     fn ulgenzhir_read_p4(
         input: *const u8,
         input_len: usize,
@@ -105,6 +125,25 @@ pub fn walk_stack(
 ) -> Pick {
     let (pointer, len) = (bytes.as_ptr(), bytes.len());
     unsafe { ulgenzhir_walk_stack(width, height, depth, pointer, len, ready, frame, reach) }
+}
+
+pub fn known_lean(pick: &Pick, reach: i32) -> Lean {
+    unsafe { ulgenzhir_known_lean(*pick, reach) }
+}
+
+pub fn firm_wedge([a, b, c, h]: [i32; 4], pick: &Pick, frame: i32, reach: i32) -> Firm {
+    unsafe { ulgenzhir_firm_wedge(a, b, c, h, *pick, frame, reach) }
+}
+
+pub fn firm_stack(
+    [width, height, depth]: [i32; 3],
+    bytes: &[u8],
+    pick: &Pick,
+    frame: i32,
+    reach: i32,
+) -> Firm {
+    let (pointer, len) = (bytes.as_ptr(), bytes.len());
+    unsafe { ulgenzhir_firm_stack(width, height, depth, pointer, len, *pick, frame, reach) }
 }
 
 pub fn read_p4(input: &[u8], rows: &mut [u8]) -> Read {

@@ -4,7 +4,8 @@
 //! one that is handed lies on the stack. This is for Arm, whose first eight numbers are in registers:
 //! what follows them lies there.
 
-use crate::answers::{Check, Lit, Pick, Point, Read, Ready, Touch, Written};
+use crate::answers::{Check, Firm, Lean, Lit, Pick, Read, Ready, Touch, Written};
+use std::mem::{size_of, size_of_val};
 
 /// A pick, a touch and a check are called alike.
 macro_rules! walk {
@@ -114,17 +115,18 @@ extern "Rust" {
     fn ulgenzhir_display(nx: i32, ny: i32, nz: i32) -> (u64, f64);
 }
 
-/// The ready start's eight numbers, two at a time.
-fn pairs(Ready { start, apex, level, looks }: Ready) -> [u64; 4] {
-    let pair = |low: u32, high: u32| u64::from(high) << 32 | u64::from(low);
-    let [[x, y, z], [qx, qy, qz]] =
-        [start, apex].map(|Point { x, y, z }| [x as u32, y as u32, z as u32]);
-    [pair(x, y), pair(z, qx), pair(qy, qz), pair(level, looks)]
+/// A struct that is handed, as its bytes lie on the stack.
+fn words<T, const N: usize>(handed: &T) -> [u64; N] {
+    let mut words = [0; N];
+    let (from, len) = (handed as *const T as *const u8, size_of::<T>());
+    assert!(len <= size_of_val(&words));
+    unsafe { from.copy_to_nonoverlapping(words.as_mut_ptr().cast(), len) };
+    words
 }
 
 pub fn walk_wedge([a, b, c, h]: [i32; 4], ready: Ready, frame: i32, reach: i32) -> Pick {
     let mut answer = Pick::default();
-    let [r0, r1, r2, r3] = pairs(ready);
+    let [r0, r1, r2, r3] = words(&ready);
     unsafe { ulgenzhir_walk_wedge(&mut answer, a, b, c, h, frame, reach, 0, r0, r1, r2, r3) };
     answer
 }
@@ -132,9 +134,62 @@ pub fn walk_wedge([a, b, c, h]: [i32; 4], ready: Ready, frame: i32, reach: i32) 
 pub fn walk_stack([w, h, d]: [i32; 3], bytes: &[u8], ready: Ready, frame: i32, reach: i32) -> Pick {
     let mut answer = Pick::default();
     let (from, len) = (bytes.as_ptr(), bytes.len());
-    let [r0, r1, r2, r3] = pairs(ready);
+    let [r0, r1, r2, r3] = words(&ready);
     unsafe { ulgenzhir_walk_stack(&mut answer, w, h, d, from, len, frame, reach, r0, r1, r2, r3) };
     answer
+}
+
+/// A call with a pick, whose numbers fill the registers behind the answer's.
+macro_rules! with_pick {
+    ($answer:ty, $call:ident calls $c_call:ident($($number:ident: $kind:ty),*)) => {
+        fn $call(pick: &Pick, $($number: $kind),*) -> $answer {
+            extern "C" {
+                fn $c_call(
+                    answer: *mut $answer,
+                    $($number: $kind,)*
+                    pick0: u64,
+                    pick1: u64,
+                    pick2: u64,
+                    pick3: u64,
+                    pick4: u64,
+                    pick5: u64,
+                    pick6: u64,
+                    pick7: u64,
+                    pick8: u64,
+                    pick9: u64,
+                    pick10: u64,
+                ) -> *mut $answer;
+            }
+            let mut answer = <$answer>::default();
+            let [p0, p1, p2, p3, p4, p5, p6, p7, p8, p9, p10] = words(pick);
+            unsafe {
+                $c_call(&mut answer, $($number,)* p0, p1, p2, p3, p4, p5, p6, p7, p8, p9, p10)
+            };
+            answer
+        }
+    };
+}
+
+with_pick!(Lean, lean calls ulgenzhir_known_lean(
+    reach: i32, third: u64, fourth: u64, fifth: u64, sixth: u64, seventh: u64, eighth: u64
+));
+with_pick!(Firm, on_wedge calls ulgenzhir_firm_wedge(
+    a: i32, b: i32, c: i32, h: i32, frame: i32, reach: i32, eighth: u64
+));
+with_pick!(Firm, on_stack calls ulgenzhir_firm_stack(
+    width: i32, height: i32, depth: i32, bytes: *const u8, len: usize, frame: i32, reach: i32
+));
+
+pub fn known_lean(pick: &Pick, reach: i32) -> Lean {
+    lean(pick, reach, 0, 0, 0, 0, 0, 0)
+}
+
+pub fn firm_wedge([a, b, c, h]: [i32; 4], pick: &Pick, frame: i32, reach: i32) -> Firm {
+    on_wedge(pick, a, b, c, h, frame, reach, 0)
+}
+
+pub fn firm_stack([w, h, d]: [i32; 3], bytes: &[u8], pick: &Pick, frame: i32, reach: i32) -> Firm {
+    on_stack(pick, w, h, d, bytes.as_ptr(), bytes.len(), frame, reach)
 }
 
 pub fn read_p4(input: &[u8], rows: &mut [u8]) -> Read {

@@ -18,6 +18,7 @@ mod tuned;
 mod wedge_lines;
 mod worst;
 
+use answers::Pick;
 use second::chance::{self, Chance};
 use second::listed::slope_stack;
 use second::point::{dot, plus, signs};
@@ -222,6 +223,43 @@ fn two_calls(rows: &mut Vec<Timed>) {
     ));
 }
 
+/// Slope, frame and answer of the typical picks.
+fn answered(level_axes: usize) -> Vec<([i32; 4], i32, Pick)> {
+    let lines = typical_lines(16, level_axes, 400).into_iter();
+    lines
+        .map(|line @ [a, b, c, h, .., frame, _]| ([a, b, c, h], frame, tuned::pick_wedge(line)))
+        .collect()
+}
+
+/// How far the typical picks' answers may lean.
+fn bounds(rows: &mut Vec<Timed>) {
+    rows.push(timed(
+        "typical known leans, reach 16",
+        &answered(0),
+        |(.., pick)| library::known_lean(pick, 16),
+        |(.., pick)| tuned::known_lean(pick, 16),
+    ));
+    for (level_axes, faces) in FACES.iter().enumerate() {
+        rows.push(timed(
+            &format!("typical firm footings, wedge, reach 16{faces}"),
+            &answered(level_axes),
+            |(slope, frame, pick)| library::firm_wedge(*slope, pick, *frame, 16),
+            |(slope, frame, pick)| tuned::firm_wedge(*slope, pick, *frame, 16),
+        ));
+    }
+    let stacks = typical_stacks(2);
+    let answered: Vec<_> = stacks
+        .iter()
+        .map(|bytes| (bytes, tuned::pick_stack([256; 3], bytes, [127; 3], 0, 16)))
+        .collect();
+    rows.push(timed(
+        "typical firm footings, stack 256, reach 16",
+        &answered,
+        |(bytes, pick)| library::firm_stack([256; 3], bytes, pick, 0, 16),
+        |(bytes, pick)| tuned::firm_stack([256; 3], bytes, pick, 0, 16),
+    ));
+}
+
 /// (1,1,254) takes as many steps as are ever allowed, 253, and on a wedge 5 + 6·254 looks: the
 /// most that a touch can. A stack ends it in the last round.
 fn touches(rows: &mut Vec<Timed>) {
@@ -327,6 +365,7 @@ fn main() {
     let mut rows = Vec::new();
     let notes = picks(&mut rows);
     two_calls(&mut rows);
+    bounds(&mut rows);
     touches(&mut rows);
     stacks(&mut rows);
     displays(&mut rows);

@@ -1,10 +1,12 @@
-//! The same walk, reader, writer and display normal as a Rust programmer would tune them. What the
-//! library is timed against.
+//! The same walk, bounds, reader, writer and display normal as a Rust programmer would tune them.
+//! What the library is timed against.
 
+mod bounds;
 mod display;
 mod p4;
 mod walk;
 
+pub use bounds::{firm_stack, firm_wedge, known_lean};
 pub use display::display;
 pub use p4::{read_p4, write_p4};
 pub use walk::{

@@ -5,7 +5,7 @@
 
 use crate::answers::{Check, Pick, Point, Ready, Touch};
 
-type Vector = [i32; 3];
+pub type Vector = [i32; 3];
 
 pub trait Solid {
     fn sides(&self) -> [u32; 3];
@@ -63,17 +63,17 @@ impl Solid for Stack<'_> {
 }
 
 #[inline]
-fn plus(a: Vector, b: Vector) -> Vector {
+pub fn plus(a: Vector, b: Vector) -> Vector {
     [a[0] + b[0], a[1] + b[1], a[2] + b[2]]
 }
 
 #[inline]
-fn minus(a: Vector, b: Vector) -> Vector {
+pub fn minus(a: Vector, b: Vector) -> Vector {
     [a[0] - b[0], a[1] - b[1], a[2] - b[2]]
 }
 
 #[inline]
-fn dot(a: Vector, b: Vector) -> i32 {
+pub fn dot(a: Vector, b: Vector) -> i32 {
     a[0] * b[0] + a[1] * b[1] + a[2] * b[2]
 }
 
@@ -81,8 +81,13 @@ fn cross(a: Vector, b: Vector) -> Vector {
     [a[1] * b[2] - a[2] * b[1], a[2] * b[0] - a[0] * b[2], a[0] * b[1] - a[1] * b[0]]
 }
 
-fn point([x, y, z]: Vector) -> Point {
+pub fn point([x, y, z]: Vector) -> Point {
     Point { x, y, z }
+}
+
+#[inline]
+pub fn vector(Point { x, y, z }: Point) -> Vector {
+    [x, y, z]
 }
 
 #[inline]
@@ -90,34 +95,35 @@ fn inside(sides: [u32; 3], [x, y, z]: Vector) -> bool {
     ((x as u32) < sides[0]) & ((y as u32) < sides[1]) & ((z as u32) < sides[2])
 }
 
-/// What a walk is made for: a pick, a touch, a check or a walk from a ready start. Each is compiled
-/// for itself.
+/// What a walk is made for: a pick, a touch, a check, a walk from a ready start or a firm footing.
+/// Each is compiled for itself.
 const PICK: u8 = 0;
 const TOUCH: u8 = 1;
 const CHECK: u8 = 2;
 const FROM: u8 = 3;
+pub const FIRM: u8 = 4;
 
-struct Walk<'a, S, const CALL: u8> {
+pub struct Walk<'a, S, const CALL: u8> {
     solid: &'a S,
     sides: [u32; 3],
-    ranks: Vector,
+    pub ranks: Vector,
     apex: Vector,
     /// The apex's rank.
     here: i32,
     signs: Vector,
-    reach: i32,
+    pub reach: i32,
     steps: u32,
-    looks: u32,
+    pub looks: u32,
 }
 
 /// A refusal's number and place.
-struct Stop(u32, Vector);
+pub struct Stop(pub u32, pub Vector);
 
-const PAIRS: [(usize, usize); 6] = [(0, 1), (0, 2), (1, 0), (1, 2), (2, 0), (2, 1)];
+pub const PAIRS: [(usize, usize); 6] = [(0, 1), (0, 2), (1, 0), (1, 2), (2, 0), (2, 1)];
 
 impl<S: Solid, const CALL: u8> Walk<'_, S, CALL> {
     #[inline]
-    fn look(&mut self, point: Vector, rank: i32) -> Result<bool, Stop> {
+    pub fn look(&mut self, point: Vector, rank: i32) -> Result<bool, Stop> {
         if !inside(self.sides, point) {
             return Err(Stop(8, point));
         }
@@ -149,18 +155,25 @@ impl<S: Solid, const CALL: u8> Walk<'_, S, CALL> {
 
     /// The unit vectors, laid in.
     #[inline]
-    fn units(&self) -> [Vector; 3] {
+    pub fn units(&self) -> [Vector; 3] {
         [[self.signs[0], 0, 0], [0, self.signs[1], 0], [0, 0, self.signs[2]]]
     }
 
-    /// Which axes are level.
-    fn begin(&mut self, start: Vector) -> Result<[bool; 3], Stop> {
+    /// The start is filled and the apex is not.
+    #[inline]
+    pub fn face(&mut self, start: Vector) -> Result<(), Stop> {
         if !self.look(start, dot(self.ranks, start))? {
             return Err(Stop(5, start));
         }
         if self.look(self.apex, self.here)? {
             return Err(Stop(6, self.apex));
         }
+        Ok(())
+    }
+
+    /// Which axes are level.
+    fn begin(&mut self, start: Vector) -> Result<[bool; 3], Stop> {
+        self.face(start)?;
         if CALL == TOUCH {
             self.corners()
         } else {
@@ -263,9 +276,14 @@ fn refused(number: u32, place: Vector, steps: u32, looks: u32) -> Pick {
     Pick { number, place: point(place), steps, looks, ..Default::default() }
 }
 
+#[inline]
+pub fn signs(frame: i32) -> Vector {
+    [1 - 2 * (frame & 1), 1 - (frame & 2), 1 - (frame >> 1 & 2)]
+}
+
 /// The walk of a solid, unless 1 to 4 refuse it. The apex goes by the signs.
 #[inline]
-fn placed<S: Solid, const CALL: u8>(
+pub fn placed<S: Solid, const CALL: u8>(
     (solid, permitted): &(S, bool),
     start: Vector,
     apex: impl FnOnce(Vector) -> Vector,
@@ -285,7 +303,7 @@ fn placed<S: Solid, const CALL: u8>(
     if !inside(sides, start) {
         return Err(Stop(4, start));
     }
-    let signs = [1 - 2 * (frame & 1), 1 - (frame & 2), 1 - (frame >> 1 & 2)];
+    let signs = signs(frame);
     let apex = apex(signs);
     if !inside(sides, apex) {
         return Err(Stop(4, apex));
@@ -336,7 +354,7 @@ fn checked<S: Solid>(solid: &(S, bool), start: Vector, frame: i32, reach: i32) -
 
 #[inline]
 fn walked_from<S: Solid>(solid: &(S, bool), ready: Ready, frame: i32, reach: i32) -> Pick {
-    let [start, apex] = [ready.start, ready.apex].map(|Point { x, y, z }| [x, y, z]);
+    let [start, apex] = [ready.start, ready.apex].map(vector);
     match placed::<S, FROM>(solid, start, |_| apex, frame, reach) {
         Ok(mut walk) => {
             let level = [0, 1, 2].map(|axis| ready.level >> axis & 1 == 1);
@@ -354,7 +372,7 @@ fn walked_from<S: Solid>(solid: &(S, bool), ready: Ready, frame: i32, reach: i32
 
 /// A wedge and whether it is permitted.
 #[inline]
-fn wedge([a, b, c, h]: [i32; 4]) -> (Wedge, bool) {
+pub fn wedge([a, b, c, h]: [i32; 4]) -> (Wedge, bool) {
     let permitted = [a, b, c].iter().all(|part| (-1000..=1000).contains(part))
         && (-4_000_000..=4_000_000).contains(&h);
     (Wedge { abc: [a, b, c], h }, permitted)
@@ -400,7 +418,7 @@ pub fn sizes_permitted(sizes: Vector, len: usize) -> bool {
 
 /// A stack and whether it is permitted.
 #[inline]
-fn stack(sizes: Vector, bytes: &[u8]) -> (Stack<'_>, bool) {
+pub fn stack(sizes: Vector, bytes: &[u8]) -> (Stack<'_>, bool) {
     (Stack { sizes, bytes }, sizes_permitted(sizes, bytes.len()))
 }
 
@@ -446,4 +464,3 @@ pub fn check_stack(
 pub fn walk_stack(sizes: [i32; 3], bytes: &[u8], ready: Ready, frame: i32, reach: i32) -> Pick {
     walked_from(&stack(sizes, bytes), ready, frame, reach)
 }
-
