@@ -48,7 +48,7 @@ pub ruleset of-answer = (of-refused, of-accepted)
 
 -- ---- the refusals, and the rest after 1, 2 and 3
 abbrev rest : Solid → List ℕ → Pick → ℤ → ℤ → Asked Stop (ℕ × Bound)
-rest solid bytes pick frame reach = firmOn (permitted solid bytes) (look solid bytes) frame reach pick
+rest solid bytes pick frame reach = firmOn (look solid bytes) frame reach pick
 
 -- only the sizes of the frame and of the reach are read
 of-size : {solid : Solid} {bytes : List ℕ} (frame reach : ℤ) (pick : Pick) {r : Firm} → FirmOf solid bytes pick (natAbs frame) (natAbs reach) r → Gives 0 (rest solid bytes pick frame reach) (firmTally r)

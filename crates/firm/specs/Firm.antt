@@ -80,10 +80,10 @@ module _ (solid : Solid) (bytes : List ℕ) where
     pub gives : Gives 0 (placing (probeAt solid bytes (a .apex) s (powers reach)) p >> (facing (probeAt solid bytes (a .apex) s (powers reach)) p >> standing a s p reach)) (firmTally r)
 
   pub record FirmUnder (a : AcceptedPick) (frame reach : ℕ) (r : Firm) : Type 0 where
-    pub gives : Gives 0 (firmUnder (permitted solid bytes) (look solid bytes) (pos frame) (pos reach) a (startUnder (a .apex) (signs frame))) (firmTally r)
+    pub gives : Gives 0 (firmUnder (look solid bytes) (pos frame) (pos reach) a (startUnder (a .apex) (signs frame))) (firmTally r)
 
   pub record FirmOf (pick : Pick) (frame reach : ℕ) (r : Firm) : Type 0 where
-    pub gives : Gives 0 (firmOn (permitted solid bytes) (look solid bytes) (pos frame) (pos reach) pick) (firmTally r)
+    pub gives : Gives 0 (firmOn (look solid bytes) (pos frame) (pos reach) pick) (firmTally r)
 
   pub record FirmOn (pick : Pick) (frame reach : ℤ) (r : Firm) : Type 0 where
     pub gives : Gives 0 (firm (permitted solid bytes) (look solid bytes) frame reach pick) (firmTally r)

@@ -10,6 +10,8 @@ use lib.Dec.{leb, leb→le, nleb→lt}
 use lib.ListN.{length}
 use borrow.Author.Tests.{le-leb, lt-leb}
 use Rattle.rules.specs.Walk.{powersFrom, powers}
+use Rattle.rules.specs.Lean.{last, lastPower}
+use Rattle.laws.specs.Tests.{Each, In}
 
 -- l, 2l, 4l, .. up to the first that is at least R
 abbrev pub UpTo : ℕ → ℕ → List ℕ → Type 0
@@ -104,3 +106,34 @@ three-most (suc (suc (suc (suc r)))) R M h k i j = absurd (omega arith)
 
 pub few-looks : (R M : ℕ) → R ≤ 256 → M ≤ 256 → 2 + length (powers R) * (6 * M - 9) ≤ 13745
 few-looks R M h k = let l : 6 * M - 9 ≤ 1527 = omega arith in omega (arith, NatL.mul-le-mul (few-powers R h) l)
+
+-- ---- the last power is one of them, at least R, and none is beyond it
+last-in : (R l : ℕ) (ls : List ℕ) → UpTo R l ls → In (last ls) ls
+unfolding last
+last-in R l [] h = absurd h
+last-in R l (k ∷ []) h = inl refl
+last-in R l (k ∷ j ∷ ks) h = inr (last-in R (l + l) (j ∷ ks) (h .2))
+
+last-high : (R l : ℕ) (ls : List ℕ) → UpTo R l ls → R ≤ last ls
+unfolding last
+last-high R l [] h = absurd h
+last-high R l (k ∷ []) h = h .1
+last-high R l (k ∷ j ∷ ks) h = last-high R (l + l) (j ∷ ks) (h .2)
+
+up-to-last : (R l : ℕ) (ls : List ℕ) → UpTo R l ls → Each (λ k. k ≤ last ls) ls
+unfolding last
+up-to-last R l [] h = absurd h
+up-to-last R l (k ∷ []) h = (NatL.le-refl k, tt)
+up-to-last R l (k ∷ j ∷ ks) h = (omega (arith, h .1, last-high R (l + l) (j ∷ ks) (h .2)), up-to-last R (l + l) (j ∷ ks) (h .2))
+
+pub last-power : (R : ℕ) → In (lastPower R) (powers R)
+unfolding lastPower
+last-power R = last-in R 1 (powers R) (powers-reach R)
+
+pub last-power-high : (R : ℕ) → R ≤ lastPower R
+unfolding lastPower
+last-power-high R = last-high R 1 (powers R) (powers-reach R)
+
+pub powers-to-last : (R : ℕ) → Each (λ l. l ≤ lastPower R) (powers R)
+unfolding lastPower
+powers-to-last R = up-to-last R 1 (powers R) (powers-reach R)

@@ -1,26 +1,22 @@
 -- The eight promises settle the answer: two answers that one allows are equal. A stack's answer depends on the voxels of its box alone.
 use mathlib.Core.Path.{_≡_, sym, _∙_}
-use mathlib.Core.Bool.{Bool}
 use mathlib.Core.List.{List}
 use Prim.Native.Nat.{ℕ}
 use lib.IntN.{ℤ, natAbs}
 use Rattle.rules.specs.declared.Vector.{Vector}
 use Rattle.rules.specs.declared.Wedge.{Wedge}
 use Rattle.rules.specs.declared.Stack.{Stack}
-use Rattle.rules.specs.declared.Solid.the-variants.{Stack as IsStack}
-use Rattle.rules.specs.declared.Look.{Look}
 use Rattle.rules.specs.declared.ReadyStart.{ReadyStart}
 use Rattle.rules.specs.declared.Check.{Check}
 use Rattle.rules.specs.declared.Pick.{Pick}
 use Rattle.rules.specs.declared.Touch.{Touch}
 use Rattle.rules.specs.Vectors.{_⊕_}
-use Rattle.rules.specs.Solids.{permitted, look}
+use Rattle.rules.specs.Solids.{look}
 use Rattle.rules.specs.Walk.{signs}
 use Rattle.rules.specs.Pick.{check, pick, answer, pickOf, WedgePromise, StackPromise}
 use Rattle.rules.specs.Touch.{touch, marked, touchOf, WedgeTouchPromise, StackTouchPromise}
 use Rattle.rules.specs.TwoCalls.{checkAnswer, checkOf, readiness, walkOn, walkAnswer, walkOf, WedgeCheckPromise, StackCheckPromise, WedgeWalkPromise, StackWalkPromise}
-use Rattle.stack.specs.Voxels.{looks-alike}
-use Rattle.stack.specs.Alike.{Alike}
+use Rattle.stack.specs.Alike.{Alike, alike}
 
 -- ---- of wedges
 module _ {w : Wedge} {frame reach : ℤ} where
@@ -51,24 +47,19 @@ module _ {k : Stack} {bytes : List ℕ} {frame reach : ℤ} where
   stack-walk-settled h k = h .is ∙ sym (k .is)
 
 -- ---- lent bytes that agree on the voxels of the box
-module _ {k : Stack} {a b : List ℕ} (h : Alike k a b) where
-  -- make the same of everything that is made of a permission and a look
-  alike : {A : Type 0} (make : Bool → (Vector → Look) → A) → make (permitted (IsStack k) a) (look (IsStack k) a) ≡ make (permitted (IsStack k) b) (look (IsStack k) b)
-  alike make = λ i. make (h .permitted i) (λ v. looks-alike k a b (h .voxels) v i)
+module _ {k : Stack} {a b : List ℕ} (h : Alike k a b) {frame reach : ℤ} where
+  pub stack-answers-alike : {p : Vector} {r t : Pick} → StackPromise k a p frame reach r → StackPromise k b p frame reach t → r ≡ t
+  unfolding pickOf
+  stack-answers-alike {p} u v = u .is ∙ alike h (λ ok look. answer (pick ok look p frame reach)) ∙ sym (v .is)
 
-  module _ {frame reach : ℤ} where
-    pub stack-answers-alike : {p : Vector} {r t : Pick} → StackPromise k a p frame reach r → StackPromise k b p frame reach t → r ≡ t
-    unfolding pickOf
-    stack-answers-alike {p} u v = u .is ∙ alike (λ ok look. answer (pick ok look p frame reach)) ∙ sym (v .is)
+  pub stack-touches-alike : {p : Vector} {r t : Touch} → StackTouchPromise k a p frame reach r → StackTouchPromise k b p frame reach t → r ≡ t
+  unfolding touchOf
+  stack-touches-alike {p} u v = u .is ∙ alike h (λ ok look. marked (answer (touch ok look p frame reach))) ∙ sym (v .is)
 
-    pub stack-touches-alike : {p : Vector} {r t : Touch} → StackTouchPromise k a p frame reach r → StackTouchPromise k b p frame reach t → r ≡ t
-    unfolding touchOf
-    stack-touches-alike {p} u v = u .is ∙ alike (λ ok look. marked (answer (touch ok look p frame reach))) ∙ sym (v .is)
+  pub stack-checks-alike : {p : Vector} {r t : Check} → StackCheckPromise k a p frame reach r → StackCheckPromise k b p frame reach t → r ≡ t
+  unfolding checkOf
+  stack-checks-alike {p} u v = u .is ∙ alike h (λ ok look. checkAnswer p (p ⊕ signs (natAbs frame)) (check ok look p frame reach)) ∙ sym (v .is)
 
-    pub stack-checks-alike : {p : Vector} {r t : Check} → StackCheckPromise k a p frame reach r → StackCheckPromise k b p frame reach t → r ≡ t
-    unfolding checkOf
-    stack-checks-alike {p} u v = u .is ∙ alike (λ ok look. checkAnswer p (p ⊕ signs (natAbs frame)) (check ok look p frame reach)) ∙ sym (v .is)
-
-    pub stack-walks-alike : {d : ReadyStart} {r t : Pick} → StackWalkPromise k a d frame reach r → StackWalkPromise k b d frame reach t → r ≡ t
-    unfolding walkOf
-    stack-walks-alike {d} u v = u .is ∙ alike (λ ok look. walkAnswer (d .looks) (readiness look d frame reach ok) (walkOn look d frame reach)) ∙ sym (v .is)
+  pub stack-walks-alike : {d : ReadyStart} {r t : Pick} → StackWalkPromise k a d frame reach r → StackWalkPromise k b d frame reach t → r ≡ t
+  unfolding walkOf
+  stack-walks-alike {d} u v = u .is ∙ alike h (λ ok look. walkAnswer (d .looks) (readiness look d frame reach ok) (walkOn look d frame reach)) ∙ sym (v .is)

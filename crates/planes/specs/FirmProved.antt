@@ -31,14 +31,14 @@ use Rattle.rules.specs.Solids.{box, inBox, permitted, look}
 use Rattle.rules.specs.Asked.{Asked, answered, refused}
 use Rattle.rules.specs.Walk.{Stop, signs, powers, first, allLevel, Probe, Found, found}
 use Rattle.rules.specs.Pick.{isInside, refusedAnswer}
-use Rattle.rules.specs.Lean.{levelsOf, last, lastPower, boundAt}
+use Rattle.rules.specs.Lean.{levelsOf, last, boundAt}
 use Rattle.rules.specs.Firm.{Way, belongs, wayOf, footing, held, startUnder, firm, firmAnswer, firmOf}
 use Rattle.laws.specs.Tests.{Each, In, is-true, less, not-less}
 use Rattle.laws.specs.Only.{each-of}
 use Rattle.laws.specs.Parts.{part, part-sum, part-scale, vector-by-parts, vector-eq, dot-sum, dot-scale, scale-dot}
 use Rattle.laws.specs.Frames.{Signs, signs-are}
 use Rattle.range.specs.Ranges.{between-naturals}
-use Rattle.laws.specs.Powers.{powers-reach, few-powers}
+use Rattle.laws.specs.Powers.{few-powers, last-power-high, powers-to-last}
 use Rattle.laws.specs.Says.{Says, Few, says-answered}
 use Rattle.laws.specs.Ranges.{Between, InCube}
 use Rattle.laws.specs.Boxes.{look-as, solid-cube}
@@ -54,7 +54,7 @@ use Rattle.planes.specs.Faces.{found-face}
 use Rattle.planes.specs.Measured.{accepted-faced, accepted-face, accepted-measurable, not-all-level}
 use Rattle.planes.specs.Standing.{FirmRefusal, last-is, firm-says, firm-stands, firm-full}
 use Rattle.planes.specs.Heights.{found-upward}
-use Rattle.planes.specs.Rooms.{in-plane, between-box, up-to-last, at-least-one, look-filled}
+use Rattle.planes.specs.Rooms.{in-plane, between-box, look-filled}
 use Rattle.planes.specs.Upward.{leans-upward}
 use Rattle.planes.specs.Below.{lean-at, below-at}
 use Rattle.planes.specs.Lean.{LeansBelow, lastOf}
@@ -261,7 +261,7 @@ module _ (n : Vector) (t : ℤ) (i : Inputs) (o : OnSlope n t i) (a : AcceptedPi
   way-filled : (l : ℕ) → l ≤ L → (w : Way) → T (belongs (levelsOf (a .normal)) w) → look (i .solid) (i .bytes) (i .start ⊕ scale (pos l) (wayOf (signsOf i) (a .triangle) w)) ≡ Filled
   way-filled l few w k =
       let u = wayOf (signsOf i) (a .triangle) w in
-      let one = at-least-one (natAbs (i .reach)) (between-naturals 1 256 (i .reach) (o .permitted .permittedReach) .0) in
+      let one : 1 ≤ L = omega (arith, last-power-high (natAbs (i .reach)), between-naturals 1 256 (i .reach) (o .permitted .permittedReach) .0) in
       let inside = between-box (box (i .solid)) (i .start) u (pos l) (pos L) (omega (arith, parts)) (omega (arith, parts)) (omega (arith, parts)) (start-low .0) (footing-of (λ u. T (inBox (box (i .solid)) (i .start ⊕ scale (pos L) u))) (signsOf i) a (room .inside) w k) in
       let flat : dot n u ≡ pos 0 = ap (λ (n : Vector). dot n u) (sym normal-is) ∙ in-plane (accepted-face _ _ _ _ _ a is) w k in
       let same : dot n (i .start ⊕ scale (pos l) u) ≡ dot n (i .start) = dot-sum n (i .start) (scale (pos l) u) ∙ ap (λ z. dot n (i .start) +ℤ z) (dot-scale n u (pos l) ∙ ap (λ z. pos l *ℤ z) flat) ∙ nothing (dot n (i .start)) (pos l) in
@@ -271,15 +271,15 @@ module _ (n : Vector) (t : ℤ) (i : Inputs) (o : OnSlope n t i) (a : AcceptedPi
       nothing x l = byring (x ∷ l ∷ []) (search sides depth 40 fits 5000) tt
 
   on-slope : firmAt i a ≡ Stands (record { power = lastOf i; looks = 2 + powersOf i * length (footing (signsOf i) a); bound = boundAt (lastOf i) a })
-  unfolding firmOf lastPower
+  unfolding firmOf
   on-slope =
       let start = same-start i a is in let faced = accepted-faced _ _ _ _ _ a is in
       firm-full (permitted (i .solid) (i .bytes)) (look (i .solid) (i .bytes)) (i .frame) (i .reach) a
       (o .permitted .permittedReach) (o .permitted .permittedFrame) (o .permitted .permittedSolid) (accepted-measurable _ _ _ _ _ a is)
       (rw start (faced .startFilled)) (rw (apex-is i a is) (faced .apexEmpty))
-      (each-of (λ l. l ≤ last (powers (natAbs (i .reach)))) _ (powers (natAbs (i .reach)))
+      (each-of (λ l. l ≤ L) _ (powers (natAbs (i .reach)))
       (λ l few. footing-by (λ u. look (i .solid) (i .bytes) (startUnder (a .apex) (signsOf i) ⊕ scale (pos l) u) ≡ Filled) (signsOf i) a (λ w k. rw start (way-filled l few w k)))
-      (up-to-last (natAbs (i .reach)) 1 (powers (natAbs (i .reach))) (powers-reach (natAbs (i .reach)))))
+      (powers-to-last (natAbs (i .reach))))
 
 -- ---- looks and refusals, of every input
 module _ (solid : Solid) (bytes : List ℕ) (pick : Pick) (frame reach : ℤ) where

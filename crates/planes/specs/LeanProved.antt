@@ -1,10 +1,9 @@
 -- The known lean, proved: a pick that was accepted looked both ways from its apex along each side and each level axis, at the last power, and every voxel there was empty.
 -- So at that power no way takes the apex below the plane, and the apex itself is above it by less than ν·s.
 use mathlib.Core.Path.{_≡_, refl, sym, _∙_}
-use mathlib.Core.Logic.{inl, inr}
 use mathlib.Core.Bool.{true, false, _&&_}
-use mathlib.Core.List.{List, [], _∷_}
-use Prim.Native.Nat.{ℕ, _+_}
+use mathlib.Core.List.{[], _∷_}
+use Prim.Native.Nat.{ℕ}
 use native.Mathlib.Omega.{arith}
 use lib.Dec.{T}
 use lib.IntN.{ℤ, pos, natAbs, negℤ, _+ℤ_, _*ℤ_}
@@ -23,13 +22,13 @@ use Rattle.rules.specs.declared.Pick.the-variants.{Accepted}
 use Rattle.rules.specs.declared.Lean.the-variants.{Known}
 use Rattle.rules.specs.Vectors.{_⊕_, minus, scale, dot, lay}
 use Rattle.rules.specs.Solids.{between, filledWedge, look}
-use Rattle.rules.specs.Walk.{powers, unit}
-use Rattle.rules.specs.Lean.{levelsOf, last, lastPower, boundAt, measurable, leanOf}
+use Rattle.rules.specs.Walk.{unit}
+use Rattle.rules.specs.Lean.{levelsOf, lastPower, boundAt, measurable, leanOf}
 use Rattle.rules.specs.Firm.{Way, sideways, along, against, belongs, wayOf, footing}
-use Rattle.laws.specs.Tests.{Each, In, is-true}
+use Rattle.laws.specs.Tests.{Each, is-true}
 use Rattle.laws.specs.Parts.{part, part-minus, vector-by-parts, dot-sum, dot-scale, dot-minus, scale-dot}
 use Rattle.laws.specs.Frames.{signs-are, lay-minus}
-use Rattle.laws.specs.Powers.{UpTo, powers-reach}
+use Rattle.laws.specs.Powers.{last-power}
 use Rattle.laws.specs.Boxes.{look-as}
 use Rattle.laws.specs.Answers.{accepted-tells}
 use Rattle.laws.specs.Theorems.{level-both-ways, sides-both-ways}
@@ -42,17 +41,6 @@ use Rattle.planes.specs.Upward.{leans-upward}
 use Rattle.planes.specs.Below.{close-at, lean-at, below-at}
 use Rattle.planes.specs.Lean.{OnPlane, lastOf, height, Leans, slopeOf, KnownLean}
 use Rattle.planes.specs.Orders.{rest}
-
--- ---- the last power is one of them
-last-in : (R l : ℕ) (ls : List ℕ) → UpTo R l ls → In (last ls) ls
-unfolding last
-last-in R l [] h = absurd h
-last-in R l (k ∷ []) h = inl refl
-last-in R l (k ∷ j ∷ ks) h = inr (last-in R (l + l) (j ∷ ks) (h .2))
-
-pub last-power : (R : ℕ) → In (lastPower R) (powers R)
-unfolding lastPower
-last-power R = last-in R 1 (powers R) (powers-reach R)
 
 -- ---- of every accepted pick: what is known is the bound at the last power
 known : (reach : ℤ) (a : AcceptedPick) → T (between (pos 1) reach (pos 256)) → T (measurable a) → leanOf (Accepted a) reach ≡ Known (boundAt (lastPower (natAbs reach)) a)

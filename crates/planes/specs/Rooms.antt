@@ -1,9 +1,9 @@
--- What a pick with room needs: the ways of its footing lie in the normal's plane, what lies between two points of the box lies in it, and no power is beyond the last.
+-- What a pick with room needs: the ways of its footing lie in the normal's plane, and what lies between two points of the box lies in it.
 use mathlib.Core.Path.{_≡_, refl, sym, ap, _∙_}
 use mathlib.Core.Logic.{_⊎_, inl, inr}
 use mathlib.Core.Bool.{true, not}
 use mathlib.Core.List.{List, [], _∷_}
-use Prim.Native.Nat.{ℕ, _+_, _≤_}
+use Prim.Native.Nat.{ℕ}
 use native.Mathlib.Nat as NatL
 use native.Mathlib.Omega.{arith}
 use lib.Dec.{T}
@@ -19,16 +19,14 @@ use Rattle.rules.specs.declared.Levels.{Levels}
 use Rattle.rules.specs.declared.Triangle.{Triangle}
 use Rattle.rules.specs.Vectors.{_⊕_, scale, dot, lay}
 use Rattle.rules.specs.Solids.{inSide, box, inBox, filled, look}
-use Rattle.rules.specs.Walk.{powers, Axis, unit, vectorOf, from, to, first, second, level}
-use Rattle.rules.specs.Lean.{last, lastPower}
+use Rattle.rules.specs.Walk.{Axis, unit, vectorOf, from, to, first, second, level}
 use Rattle.rules.specs.Firm.{Way, sideways, along, against, belongs, wayOf}
-use Rattle.laws.specs.Tests.{Each, is-true, is-not, compared}
+use Rattle.laws.specs.Tests.{is-true, is-not, compared}
 use Rattle.laws.specs.Parts.{dot-difference, dot-minus}
 use Rattle.laws.specs.Frames.{lay-minus}
 use Rattle.laws.specs.Levels.{from-remains, to-remains}
 use Rattle.laws.specs.Flat.{product}
 use Rattle.range.specs.Ranges.{InSide, in-sides}
-use Rattle.laws.specs.Powers.{UpTo, powers-reach}
 use Rattle.planes.specs.Orders.{at-most, less-by, rest, rest-less, same-rest, _and_, _by_}
 use Rattle.planes.specs.Turn.{Face}
 
@@ -74,23 +72,7 @@ between-box sides p u l L one up few i j =
     yes-and (inSide (sides .x) (p .x +ℤ l *ℤ u .x)) _ (in-side (between-side (sides .x) (p .x) (u .x) l L one up few (a .of-x) (b .of-x)))
     (yes-and (inSide (sides .y) (p .y +ℤ l *ℤ u .y)) _ (in-side (between-side (sides .y) (p .y) (u .y) l L one up few (a .of-y) (b .of-y))) (in-side (between-side (sides .z) (p .z) (u .z) l L one up few (a .of-z) (b .of-z))))
 
--- ---- no power is beyond the last
-last-high : (R l : ℕ) (ls : List ℕ) → UpTo R l ls → R ≤ last ls
-unfolding last
-last-high R l [] h = absurd h
-last-high R l (k ∷ []) h = h .1
-last-high R l (k ∷ j ∷ ks) h = last-high R (l + l) (j ∷ ks) (h .2)
-
-pub up-to-last : (R l : ℕ) (ls : List ℕ) → UpTo R l ls → Each (λ k. k ≤ last ls) ls
-unfolding last
-up-to-last R l [] h = absurd h
-up-to-last R l (k ∷ []) h = (NatL.le-refl k, tt)
-up-to-last R l (k ∷ j ∷ ks) h = (omega (arith, h .1, last-high R (l + l) (j ∷ ks) (h .2)), up-to-last R (l + l) (j ∷ ks) (h .2))
-
-pub at-least-one : (R : ℕ) → 1 ≤ R → 1 ≤ lastPower R
-unfolding lastPower
-at-least-one R h = omega (arith, h, last-high R 1 (powers R) (powers-reach R))
-
+-- ---- a voxel of the box that is filled
 pub look-filled : (solid : Solid) (bytes : List ℕ) (u : Vector) → T (inBox (box solid) u) → filled solid bytes u ≡ true → look solid bytes u ≡ Filled
 unfolding look
 look-filled solid bytes u i f = rw (is-true (inBox (box solid) u) i, f) refl

@@ -178,7 +178,7 @@ module _ (ok : Bool) (look : Vector → Look) (frame reach : ℤ) where
           says-map _ (λ F. (F, boundAt F a)) (says-weaker _ (λ F t h. h) (λ r t h. absurd (h .holds)) (firm-from-says look p (footing s a) 0 (powers R))) (λ F t h.
           record { holds = record { permittedSolid = permitted; startFilled = e; apexEmpty = d; reached = h .holds; isBound = refl }; few = omega (arith, h .few, enough small, NatL.mul-le-mul-left K (few-ways s a), NatL.mul-comm K 6) })
 
-      under-says : Says (Few N (Footed a)) (Few N FirmRefusal) (firmUnder ok look frame reach a p)
+      under-says : Says (Few N (Footed a)) (Few N FirmRefusal) (firmUnder look frame reach a p)
       unfolding firmUnder
       under-says =
           says-ensure _ _ _ (λ _. unmeasured) (λ _.
@@ -187,7 +187,7 @@ module _ (ok : Bool) (look : Vector → Look) (frame reach : ℤ) where
           (facing-says c p (h .0) (h .1) (λ _. early (omega arith, omega arith) (p ∷ []) (omega (arith, enough small))) (λ _ _. early (omega arith, omega arith) (p ∷ a .apex ∷ []) (omega (arith, enough small)))) (λ r t k. k) (λ _ t k. rw (k .2)
           (search-says (k .0) (k .1))))))
 
-    on-says : R ≤ 256 → T ok → (pick : Pick) → Says (Few N (FootedAs pick)) (Few N FirmRefusal) (firmOn ok look frame reach pick)
+    on-says : R ≤ 256 → T ok → (pick : Pick) → Says (Few N (FootedAs pick)) (Few N FirmRefusal) (firmOn look frame reach pick)
     on-says small permitted (Accepted a) = under-says small permitted a
     on-says small permitted (Refused r) = says-refuse unmeasured
 

@@ -87,7 +87,7 @@ unfoldable pub startUnder : Vector → Vector → Vector
 startUnder q s = vector (held (q .x -ℤ s .x)) (held (q .y -ℤ s .y)) (held (q .z -ℤ s .z))
 
 -- ---- refused with 1, 2 and 3 as a pick; 35; 4 with p, else with the apex; 5 and 6 after a look at p, at the apex
-module _ (permitted : Bool) (look : Vector → Look) (frame reach : ℤ) where
+module _ (look : Vector → Look) (frame reach : ℤ) where
   -- of an accepted answer, from the start p: the last power and the bound at it
   module _ (a : AcceptedPick) (p : Vector) where
     abbrev c : Probe
@@ -106,12 +106,13 @@ module _ (permitted : Bool) (look : Vector → Look) (frame reach : ℤ) where
   firmOn (Accepted a) = firmUnder a (startUnder (a .apex) (signs (natAbs frame)))
   firmOn (Refused r) = refused (stop 35 origin 0) []
 
-  unfoldable pub firm : Pick → Asked Stop (ℕ × Bound)
-  firm pick = do
-    ensure (between (pos 1) reach (pos 256)) (stop 1 origin 0)
-    ensure (between (pos 0) frame (pos 7)) (stop 2 origin 0)
-    ensure permitted (stop 3 origin 0)
-    firmOn pick
+-- over any solid: whether it is permitted, and its look
+unfoldable pub firm : Bool → (Vector → Look) → ℤ → ℤ → Pick → Asked Stop (ℕ × Bound)
+firm permitted look frame reach pick = do
+  ensure (between (pos 1) reach (pos 256)) (stop 1 origin 0)
+  ensure (between (pos 0) frame (pos 7)) (stop 2 origin 0)
+  ensure permitted (stop 3 origin 0)
+  firmOn look frame reach pick
 
 -- the answer's two cases
 unfoldable pub firmAnswer : Asked Stop (ℕ × Bound) → Firm
