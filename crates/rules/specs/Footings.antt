@@ -1,7 +1,7 @@
 -- Cases of the known lean and the firm footing, worked out by hand as `tests/second/listed.rs` tells (it has more): answers as a host may hand them, on a wedge, those of W1, W6 and W8 among them.
 -- One statement over a list, by evaluation. It rests on no round of a walk, so an edit of the rounds breaks one list alone.
 use mathlib.Core.Path.{_≡_, refl}
-use mathlib.Core.List.{List, [], _∷_, map}
+use mathlib.Core.List.{[], _∷_, map}
 use Prim.Native.Nat.{ℕ}
 use lib.IntN.{ℤ, pos, negsuc}
 use Rattle.rules.specs.declared.Vector.{Vector}
