@@ -9,7 +9,7 @@ use crate::walk::{at_once, judged, Record, Refusal, Walk, PAIRS};
 
 #[derive(Clone, Copy, Debug, PartialEq, Eq)]
 pub struct Footing {
-    /// "The last power at which all stood, 0 if none."
+    /// "The last at which all were filled, 0 if there is none."
     pub power: i64,
     pub looks: u32,
     pub bound: Bound,
@@ -17,8 +17,7 @@ pub struct Footing {
 
 pub type Firm = Result<Footing, Refusal>;
 
-/// Refused with "1, 2, 3 as a pick; 35; 4 with p, else with the apex; 5 and 6 after a look at p, at
-/// the apex".
+/// Refused "in this order: 1, 2, 3, 35, 4, 5, 6"; 4 with p, else with the apex.
 pub fn firm<S: Solid>(solid: &S, answer: Pick, frame: i64, reach: i64) -> Firm {
     judged(solid, frame, reach)?;
     let record = measurable(answer).map_err(|number| at_once(number, ORIGIN))?;
@@ -35,8 +34,8 @@ fn start(apex: Point, signs: Point) -> Point {
     minus(apex, signs).map(|part| part.clamp(i32::MIN.into(), i32::MAX.into()))
 }
 
-/// The pairs of axes that are both not level, "as the answer has them"; then plus and minus the unit
-/// vector of each level axis, with the frame's sign.
+/// "Along each difference of two of m0, m1, m2 that are not level and along each level axis, all of
+/// them both ways": the pairs in a round's order, then each axis with the frame's sign first.
 pub fn ways(record: &Record, signs: Point) -> Vec<Point> {
     let stands = |axis: usize| !level(record, axis);
     let sides = PAIRS.iter().filter(|&&(k, l)| stands(k) && stands(l));
@@ -49,8 +48,7 @@ pub fn ways(record: &Record, signs: Point) -> Vec<Point> {
     ways
 }
 
-/// "The search ends at the first voxel that isn't filled (counted as a look) or lies outside the box
-/// (not counted)."
+/// "A voxel that is not filled ends the search, and so does one outside the box, which is no look."
 fn firm_to<S: Solid>(walk: &mut Walk<S>, start: Point, powers: &[i64], ways: &[Point]) -> i64 {
     let mut firm = 0;
     for &power in powers {

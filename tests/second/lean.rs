@@ -5,8 +5,8 @@ use crate::pick::{powers, Pick};
 use crate::point::{dot, minus, Point, ORIGIN};
 use crate::walk::Record;
 
-/// "A refused pick, a reach outside 1 to 256, a part of the normal beyond 256 or of a vector beyond
-/// 2,046 in size, or a normal of zeros."
+/// "The pick is refused, reach is outside 1 to 256, a part of the normal is beyond 256 or one of m0,
+/// m1, m2 beyond 2046 in size, or the normal is 0 0 0."
 pub const NOT_MEASURABLE: u32 = 35;
 
 /// The squared sine of the lean is below part / whole.
@@ -54,8 +54,8 @@ pub fn bound(record: &Record, power: i64) -> Bound {
     Bound { part: 3 * spread(record) as u64, whole: whole as u64 }
 }
 
-/// S: "the greatest squared length of a side between two corners that aren't level (0 if there is no
-/// side), plus 1 for each level axis". A corner alone counts as its own other: length 0.
+/// S, "the greatest squared length of a difference of two of m0, m1, m2 that are not level (0 if
+/// there is none), plus 1 for each level axis". A vector alone counts as its own other: length 0.
 fn spread(record: &Record) -> i64 {
     let (levels, corners): (Vec<usize>, Vec<usize>) = (0..3).partition(|&axis| level(record, axis));
     let mut longest = 0;
