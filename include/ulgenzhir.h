@@ -231,7 +231,8 @@ typedef struct {
  *
  * This is of planes: where the face ends, take the firm footing. And it is of
  * picks, a check and its walk in a row among them, not of a walk from a ready
- * start that nobody checked.
+ * start that nobody checked. Any numbers may be handed in, here and below, but
+ * of an answer that no call gave the bounds say nothing.
  */
 ulgenzhir_lean ulgenzhir_known_lean(ulgenzhir_pick pick, int32_t reach);
 
