@@ -11,23 +11,23 @@ use Rattle.rules.specs.Vectors.{◌⊕◌, ◌⊖◌}
 use Rattle.rules.specs.Walk.{Axis, Probe}
 use Rattle.rules.specs.Solids.{look}
 use Rattle.laws.specs.Bounds.{Bounded}
-use Rattle.axis.specs.Axes.{axisAt, withPart}
+use Rattle.axis.specs.Axes.{axis_at, with_part}
 use Rattle.axis.specs.Along.{part-within, part-with, along-axis, twice-along}
-use Rattle.solid.specs.Grid.{ranksOf}
+use Rattle.solid.specs.Grid.{ranks_of}
 use Rattle.solid.specs.Facts.{empty-bounded}
 use Rattle.falls.specs.declared.Scene.{Scene}
 use Rattle.along.specs.declared.Line.{Line}
-use Rattle.falls.specs.Scene.{probeOf, Ready}
+use Rattle.falls.specs.Scene.{probe_of, Ready}
 use Rattle.falls.specs.Sizes.{apex-bounded}
 use Rattle.falls.specs.declared.Falls.{Falls}
 use Rattle.falls.specs.declared.Falls.TheVariants.{Stopped}
 use Rattle.falls.specs.Falls.{Fallen, Falling}
-use Rattle.along.specs.Lines.{wayAlong, Along}
+use Rattle.along.specs.Lines.{way_along, Along}
 use Rattle.along.specs.Facts.{way-bounded}
 use Rattle.falls.specs.Powers.{falls-begins, falls-on, fallen-back}
 
 -- of a point, by its part
-pub part-sized : {n : ℕ} (q : Vector) (k : Axis) {z : ℤ} → Bounded n (withPart q k z) → Within n z
+pub part-sized : {n : ℕ} (q : Vector) (k : Axis) {z : ℤ} → Bounded n (with_part q k z) → Within n z
 part-sized q k {z} h = within-is (sym (part-with q k z)) (part-within h k)
 
 pub stopped-at : {c : Probe} {u at p : Vector} {looks n : ℕ} → p ≡ at → Fallen c u looks (Stopped at n) → Fallen c u looks (Stopped p n)
@@ -35,25 +35,25 @@ stopped-at e h = rw e h
 
 module _ {v : Scene} {bytes : List ℕ} {l : Line} (h : Ready v bytes) (a : Along v l) where
   pub from-within : Within 1023 l.from
-  from-within = within-is a.from (part-within (apex-bounded h) (axisAt l.axis))
+  from-within = within-is a.from (part-within (apex-bounded h) (axis_at l.axis))
 
   -- the first point
-  pub first-along : {z : ℤ} → z ≡ l.from +ℤ l.step → withPart v.apex (axisAt l.axis) z ≡ v.apex ⊕ wayAlong l
-  first-along e = ap (withPart v.apex (axisAt l.axis)) (e ∙ ap (λ (x : ℤ). x +ℤ l.step) a.from) ∙ along-axis v.apex (axisAt l.axis) l.step
+  pub first-along : {z : ℤ} → z ≡ l.from +ℤ l.step → with_part v.apex (axis_at l.axis) z ≡ v.apex ⊕ way_along l
+  first-along e = ap (with_part v.apex (axis_at l.axis)) (e ∙ ap (λ (x : ℤ). x +ℤ l.step) a.from) ∙ along-axis v.apex (axis_at l.axis) l.step
 
   pub along-begins : {z rank : ℤ} {looks : ℕ} → z ≡ l.from +ℤ l.step → rank ≡ v.here +ℤ l.rise
-      → Falling (look v.solid bytes) (ranksOf v.solid) v.apex (withPart v.apex (axisAt l.axis) z ⊖ v.apex) v.span looks 1 looks (withPart v.apex (axisAt l.axis) z) rank
+      → Falling (look v.solid bytes) (ranks_of v.solid) v.apex (with_part v.apex (axis_at l.axis) z ⊖ v.apex) v.span looks 1 looks (with_part v.apex (axis_at l.axis) z) rank
   along-begins e f = falls-begins (apex-bounded h) (way-bounded a) h.ranked a.rise (first-along e) f
 
   -- the next one
   pub along-on : {u : Vector} (z : ℤ) {far rank next : ℤ} {looks power n : ℕ} {seen : Look}
-      → Falling (look v.solid bytes) (ranksOf v.solid) v.apex u v.span looks power n (withPart v.apex (axisAt l.axis) z) rank
-      → seen ≡ look v.solid bytes (withPart v.apex (axisAt l.axis) z) → seen ≡ Empty → power < v.span → far ≡ z +ℤ (z -ℤ l.from) → next ≡ rank +ℤ (rank -ℤ v.here)
-      → Falling (look v.solid bytes) (ranksOf v.solid) v.apex u v.span looks (power + power) (n + 1) (withPart v.apex (axisAt l.axis) far) next
+      → Falling (look v.solid bytes) (ranks_of v.solid) v.apex u v.span looks power n (with_part v.apex (axis_at l.axis) z) rank
+      → seen ≡ look v.solid bytes (with_part v.apex (axis_at l.axis) z) → seen ≡ Empty → power < v.span → far ≡ z +ℤ (z -ℤ l.from) → next ≡ rank +ℤ (rank -ℤ v.here)
+      → Falling (look v.solid bytes) (ranks_of v.solid) v.apex u v.span looks (power + power) (n + 1) (with_part v.apex (axis_at l.axis) far) next
   along-on z i b e o f x =
       falls-on i b (apex-bounded h) (empty-bounded h.permitted b e) h.ranked h.span-high e o refl
-      (ap (withPart v.apex (axisAt l.axis)) (f ∙ ap (λ (y : ℤ). z +ℤ (z -ℤ y)) a.from) ∙ twice-along v.apex (axisAt l.axis) z) x
+      (ap (with_part v.apex (axis_at l.axis)) (f ∙ ap (λ (y : ℤ). z +ℤ (z -ℤ y)) a.from) ∙ twice-along v.apex (axis_at l.axis) z) x
 
   -- at the end the first point tells the line's vector
-  pub along-ends : {z : ℤ} {looks : ℕ} {f : Falls} → z ≡ l.from +ℤ l.step → Fallen (probeOf v bytes) (withPart v.apex (axisAt l.axis) z ⊖ v.apex) looks f → Fallen (probeOf v bytes) (wayAlong l) looks f
+  pub along-ends : {z : ℤ} {looks : ℕ} {f : Falls} → z ≡ l.from +ℤ l.step → Fallen (probe_of v bytes) (with_part v.apex (axis_at l.axis) z ⊖ v.apex) looks f → Fallen (probe_of v bytes) (way_along l) looks f
   along-ends e i = fallen-back (first-along e) i

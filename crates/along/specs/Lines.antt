@@ -5,8 +5,8 @@ use Rattle.rules.specs.Vectors.{scale, dot}
 use Rattle.rules.specs.Walk.{unit}
 use Rattle.laws.specs.Frames.{IsSign}
 use Rattle.laws.specs.Parts.{part}
-use Rattle.axis.specs.Axes.{axisAt}
-use Rattle.solid.specs.Grid.{ranksOf, gridOf, sideAt}
+use Rattle.axis.specs.Axes.{axis_at}
+use Rattle.solid.specs.Grid.{ranks_of, grid_of, side_at}
 use Rattle.falls.specs.declared.Scene.{Scene}
 use Rattle.along.specs.declared.Line.{Line}
 
@@ -15,23 +15,23 @@ line i side from step rise = record { axis = i; side = side; from = from; step =
 
 -- an axis's unit vector, laid in
 abbrev pub line_of : Scene → ℕ → Line
-line_of v i = let k = axisAt i in line i (sideAt v.grid k) (part k v.apex) (part k v.signs) (part k v.signs *ℤ part k v.grid.ranks)
+line_of v i = let k = axis_at i in line i (side_at v.grid k) (part k v.apex) (part k v.signs) (part k v.signs *ℤ part k v.grid.ranks)
 
 -- its opposite
-abbrev pub turnedLine : Line → Line
-turnedLine l = line l.axis l.side l.from (neg_ℤ l.step) (neg_ℤ l.rise)
+abbrev pub turned_line : Line → Line
+turned_line l = line l.axis l.side l.from (neg_ℤ l.step) (neg_ℤ l.rise)
 
 -- a line's vector
-abbrev pub wayAlong : Line → Vector
-wayAlong l = scale l.step (unit (axisAt l.axis))
+abbrev pub way_along : Line → Vector
+way_along l = scale l.step (unit (axis_at l.axis))
 
 -- what the question along it takes for granted
 pub record Along (v : Scene) (l : Line) : Type 0 where
   pub low : l.axis < 3
-  pub side : l.side ≡ sideAt (gridOf v.solid) (axisAt l.axis)
-  pub from : l.from ≡ part (axisAt l.axis) v.apex
+  pub side : l.side ≡ side_at (grid_of v.solid) (axis_at l.axis)
+  pub from : l.from ≡ part (axis_at l.axis) v.apex
   pub sign : IsSign l.step
-  pub rise : l.rise ≡ dot (ranksOf v.solid) (wayAlong l)
+  pub rise : l.rise ≡ dot (ranks_of v.solid) (way_along l)
 
 pub record LineOf (v : Scene) (i : ℕ) (l : Line) : Type 0 where
   pub is : l ≡ line_of v i

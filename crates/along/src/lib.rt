@@ -4,9 +4,9 @@ ghost use Rattle.integers.specs.Sizes.{Within};
 ghost use Rattle.laws.specs.Frames.{Signs};
 ghost use Rattle.laws.specs.Tally.{Countable};
 ghost use Rattle.solid.specs.Grid.{GridRanks};
-ghost use Rattle.falls.specs.Scene.{probeOf, Ready};
+ghost use Rattle.falls.specs.Scene.{probe_of, Ready};
 ghost use Rattle.falls.specs.Falls.{Fallen};
-ghost use Rattle.along.specs.Lines.{turnedLine, wayAlong, Along, LineOf};
+ghost use Rattle.along.specs.Lines.{turned_line, way_along, Along, LineOf};
 
 use falls::{Falls, Scene};
 use rules::Look;
@@ -46,7 +46,7 @@ pub fn line_of(scene: Scene, axis: u32) -> Line
 // Its opposite.
 pub fn turn(line: Line) -> Line
     requires { Within 1000000000 line.step × Within 1000000000 line.rise }
-    ensures { result ≡ turnedLine line }
+    ensures { result ≡ turned_line line }
 {
     Line {
         axis: line.axis,
@@ -60,7 +60,7 @@ pub fn turn(line: Line) -> Line
 // Whether a line's vector falls. Its points are the apex but for their part along the axis, so that one side of the box is asked.
 pub fn ask_along(scene: Scene, bytes: &[u8], line: Line, looks: u32) -> Falls
     requires { Ready scene bytes.now × Along scene line × Countable 1 looks }
-    ensures { Fallen (probeOf scene bytes.now) (wayAlong line) looks result }
+    ensures { Fallen (probe_of scene bytes.now) (way_along line) looks result }
 {
     let solid = scene.solid;
     let q = scene.apex;

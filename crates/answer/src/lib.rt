@@ -1,6 +1,6 @@
 // A pick's answer as the line that the session prints, and how many bytes that takes at most.
 ghost use Rattle.std.specs.Prelude.{pos};
-ghost use Rattle.rules.specs.Session.{word, three, counts, told, toldAccepted, toldRefused};
+ghost use Rattle.rules.specs.Session.{word, three, counts, told, told_accepted, told_refused};
 ghost use Rattle.answer.specs.Wrote.{Space, Wrote};
 
 use rules::{Accepted, Pick, Refused, Vector};
@@ -44,7 +44,7 @@ fn put_counts(out: &mut [u8], at: usize, steps: u32, looks: u32) -> usize
 
 fn put_accepted(out: &mut [u8], at: usize, a: Accepted) -> usize
     requires { Space 60 out.old at }
-    ensures { Wrote 60 out.old at (toldAccepted a) out.new result }
+    ensures { Wrote 60 out.old at (told_accepted a) out.new result }
 {
     let normal = a.normal;
     let steps = a.steps;
@@ -56,7 +56,7 @@ fn put_accepted(out: &mut [u8], at: usize, a: Accepted) -> usize
 
 fn put_refused(out: &mut [u8], at: usize, r: Refused) -> usize
     requires { Space 71 out.old at }
-    ensures { Wrote 71 out.old at (toldRefused r) out.new result }
+    ensures { Wrote 71 out.old at (told_refused r) out.new result }
 {
     let number = r.number;
     let place = r.place;

@@ -9,7 +9,7 @@ use Rattle.rules.specs.Walk.{Axis, axis0, axis1, axis2, unit}
 use Rattle.laws.specs.Bounds.{Bounded}
 use Rattle.laws.specs.Frames.{lay-minus}
 use Rattle.laws.specs.Parts.{part, part-minus, part-scale, vector-by-parts, vector-eq, dot-scale, dot-unit}
-use Rattle.axis.specs.Axes.{withPart}
+use Rattle.axis.specs.Axes.{with_part}
 
 pub unit-bounded : (k : Axis) → Bounded 1 (unit k)
 unit-bounded axis0 = search rules
@@ -21,7 +21,7 @@ part-within h axis0 = h.in-x
 part-within h axis1 = h.in-y
 part-within h axis2 = h.in-z
 
-pub part-with : (q : Vector) (k : Axis) (z : ℤ) → part k (withPart q k z) ≡ z
+pub part-with : (q : Vector) (k : Axis) (z : ℤ) → part k (with_part q k z) ≡ z
 part-with q axis0 z = refl
 part-with q axis1 z = refl
 part-with q axis2 z = refl
@@ -34,7 +34,7 @@ moves : (x l : ℤ) → x +ℤ l ≡ x +ℤ l *ℤ pos 1
 moves x l = byring (x ∷ l ∷ []) (search sides depth 40 fits 5000) tt
 
 -- ---- a point along an axis
-pub along-axis : (q : Vector) (k : Axis) (l : ℤ) → withPart q k (part k q +ℤ l) ≡ q ⊕ scale l (unit k)
+pub along-axis : (q : Vector) (k : Axis) (l : ℤ) → with_part q k (part k q +ℤ l) ≡ q ⊕ scale l (unit k)
 unfolding ◌⊕◌ scale
 along-axis q axis0 l = vector-eq (moves q.x l) (stays q.y l) (stays q.z l)
 along-axis q axis1 l = vector-eq (stays q.x l) (moves q.y l) (stays q.z l)
@@ -44,7 +44,7 @@ along-axis q axis2 l = vector-eq (stays q.x l) (stays q.y l) (moves q.z l)
 stands : (x : ℤ) → x ≡ x +ℤ (x -ℤ x)
 stands x = byring (x ∷ []) (search sides depth 40 fits 5000) tt
 
-pub twice-along : (q : Vector) (k : Axis) (z : ℤ) → withPart q k (z +ℤ (z -ℤ part k q)) ≡ withPart q k z ⊕ (withPart q k z ⊖ q)
+pub twice-along : (q : Vector) (k : Axis) (z : ℤ) → with_part q k (z +ℤ (z -ℤ part k q)) ≡ with_part q k z ⊕ (with_part q k z ⊖ q)
 unfolding ◌⊕◌ ◌⊖◌
 twice-along q axis0 z = vector-eq refl (stands q.y) (stands q.z)
 twice-along q axis1 z = vector-eq (stands q.x) refl (stands q.z)

@@ -2,14 +2,14 @@
 ghost use Rattle.std.specs.Prelude.{◌≡◌, ◌<◌};
 ghost use Rattle.rules.specs.Walk.{unit};
 ghost use Rattle.laws.specs.Parts.{part};
-ghost use Rattle.axis.specs.Axes.{axisAt, withPart};
+ghost use Rattle.axis.specs.Axes.{axis_at, with_part};
 
 use rules::Vector;
 
 // With no branch.
 pub fn unit_of(axis: u32) -> Vector
     requires { axis < 3 }
-    ensures { result ≡ unit (axisAt axis) }
+    ensures { result ≡ unit (axis_at axis) }
 {
     let x = (axis == 0) as i32;
     let y = (axis == 1) as i32;
@@ -19,7 +19,7 @@ pub fn unit_of(axis: u32) -> Vector
 
 pub fn part_of(v: Vector, axis: u32) -> i32
     requires { axis < 3 }
-    ensures { result ≡ part (axisAt axis) v }
+    ensures { result ≡ part (axis_at axis) v }
 {
     if axis == 0 {
         return v.x;
@@ -29,7 +29,7 @@ pub fn part_of(v: Vector, axis: u32) -> i32
 
 pub fn with_part(v: Vector, axis: u32, z: i32) -> Vector
     requires { axis < 3 }
-    ensures { result ≡ withPart v (axisAt axis) z }
+    ensures { result ≡ with_part v (axis_at axis) z }
 {
     if axis == 0 {
         return Vector {

@@ -11,13 +11,13 @@ use Rattle.rules.specs.declared.Check.TheVariants.{Ready as CheckReady, Refused 
 use Rattle.rules.specs.Vectors.{origin}
 use Rattle.rules.specs.Solids.{permitted, look}
 use Rattle.rules.specs.Asked.{Asked as Question}
-use Rattle.rules.specs.Walk.{Stop, powers, Probe, Found, toTheEnd}
+use Rattle.rules.specs.Walk.{Stop, powers, Probe, Found, to_the_end}
 use Rattle.rules.specs.Pick.{pick, answer}
 use Rattle.rules.specs.Touch.{touch}
-use Rattle.rules.specs.TwoCalls.{readyStart, checkOf, isReady, answerFrom, walk_of}
+use Rattle.rules.specs.TwoCalls.{ready_start, check_of, is_ready, answer_from, walk_of}
 use Rattle.falls.specs.declared.Scene.{Scene}
-use Rattle.falls.specs.Scene.{probeOf}
-use Rattle.refusals.specs.Refusals.{refusalOf}
+use Rattle.falls.specs.Scene.{probe_of}
+use Rattle.refusals.specs.Refusals.{refusal_of}
 use Rattle.start.specs.declared.Start.{Start}
 use Rattle.start.specs.declared.Start.TheVariants.{Begun, Refused as StartRefused}
 use Rattle.start.specs.Start.{Started}
@@ -29,55 +29,55 @@ use Rattle.call.specs.declared.Outcome.{Outcome}
 use Rattle.call.specs.declared.Outcome.TheVariants.{Ready, Ended}
 
 -- ---- where the rounds begin
-abbrev pub beginOf : Call → Begin
-beginOf (Pick p) = Asked false p
-beginOf (Touch p) = Asked true p
-beginOf (Check p) = Asked false p
-beginOf (Walk d) = Handed d
+abbrev pub begin_of : Call → Begin
+begin_of (Pick p) = Asked false p
+begin_of (Touch p) = Asked true p
+begin_of (Check p) = Asked false p
+begin_of (Walk d) = Handed d
 
 -- a ready start, by whether it is ready
 abbrev pub readied : Bool → ReadyStart → Start
 readied true d = Begun d.level d.looks
-readied false d = StartRefused (refusalOf 13 origin 0 0)
+readied false d = StartRefused (refusal_of 13 origin 0 0)
 
-abbrev pub readiedAs : ℕ → ReadyStart → Start
-readiedAs R d = readied (isReady (length (powers R)) d) d
+abbrev pub readied_as : ℕ → ReadyStart → Start
+readied_as R d = readied (is_ready (length (powers R)) d) d
 
 abbrev pub BegunAs : Begin → Probe → ℕ → Start → Type 0
 BegunAs (Asked quick p) c R r = Started quick c p r
-BegunAs (Handed d) c R r = r ≡ readiedAs R d
+BegunAs (Handed d) c R r = r ≡ readied_as R d
 
 pub record RoundsBegun (begin : Begin) (c : Probe) (R : ℕ) (r : Start) : Type 0 where
   pub begun : BegunAs begin c R r
 
 -- ---- a check ends with its ready start, the others with the answer at the end of the walk
-abbrev pub walkEnd : Scene → List ℕ → Levels → ℕ → Outcome
-walkEnd v bytes level looks = Ended (answerFrom looks (toTheEnd (probeOf v bytes) v.reach level))
+abbrev pub walk_end : Scene → List ℕ → Levels → ℕ → Outcome
+walk_end v bytes level looks = Ended (answer_from looks (to_the_end (probe_of v bytes) v.reach level))
 
 abbrev pub end_of : Call → Scene → List ℕ → Levels → ℕ → Outcome
-end_of (Pick p) v bytes level looks = walkEnd v bytes level looks
-end_of (Touch p) v bytes level looks = walkEnd v bytes level looks
-end_of (Check p) v bytes level looks = Ready (readyStart p v.apex level looks)
-end_of (Walk d) v bytes level looks = walkEnd v bytes level looks
+end_of (Pick p) v bytes level looks = walk_end v bytes level looks
+end_of (Touch p) v bytes level looks = walk_end v bytes level looks
+end_of (Check p) v bytes level looks = Ready (ready_start p v.apex level looks)
+end_of (Walk d) v bytes level looks = walk_end v bytes level looks
 
 -- ---- what a call comes to
 -- a quick touch, or a pick
-abbrev pub walkAt : Bool → Bool → (Vector → Look) → Vector → ℤ → ℤ → Question Stop Found
-walkAt true = touch
-walkAt false = pick
+abbrev pub walk_at : Bool → Bool → (Vector → Look) → Vector → ℤ → ℤ → Question Stop Found
+walk_at true = touch
+walk_at false = pick
 
 abbrev pub checked : CheckAnswer → Outcome
 checked (CheckReady d) = Ready d
 checked (CheckRefused r) = Ended (Refused r)
 
-abbrev pub outcomeOf : Call → Solid → List ℕ → ℤ → ℤ → Outcome
-outcomeOf (Pick p) solid bytes frame reach = Ended (answer (walkAt false (permitted solid bytes) (look solid bytes) p frame reach))
-outcomeOf (Touch p) solid bytes frame reach = Ended (answer (walkAt true (permitted solid bytes) (look solid bytes) p frame reach))
-outcomeOf (Check p) solid bytes frame reach = checked (checkOf solid bytes p frame reach)
-outcomeOf (Walk d) solid bytes frame reach = Ended (walk_of solid bytes d frame reach)
+abbrev pub outcome_of : Call → Solid → List ℕ → ℤ → ℤ → Outcome
+outcome_of (Pick p) solid bytes frame reach = Ended (answer (walk_at false (permitted solid bytes) (look solid bytes) p frame reach))
+outcome_of (Touch p) solid bytes frame reach = Ended (answer (walk_at true (permitted solid bytes) (look solid bytes) p frame reach))
+outcome_of (Check p) solid bytes frame reach = checked (check_of solid bytes p frame reach)
+outcome_of (Walk d) solid bytes frame reach = Ended (walk_of solid bytes d frame reach)
 
 pub record CallMade (call : Call) (solid : Solid) (bytes : List ℕ) (frame reach : ℤ) (r : Outcome) : Type 0 where
-  pub is : r ≡ outcomeOf call solid bytes frame reach
+  pub is : r ≡ outcome_of call solid bytes frame reach
 
 -- the outcomes of picks, touches and walks, and those of checks
 abbrev pub EndsPick : Outcome → Type 0

@@ -9,14 +9,14 @@ abbrev pub is_stack : Solid → Bool
 is_stack (IsWedge w) = false
 is_stack (IsStack k) = true
 
-abbrev pub numbersOf : Solid → Vector
-numbersOf (IsWedge w) = vector w.a w.b w.c
-numbersOf (IsStack k) = vector k.width k.height k.depth
+abbrev pub numbers_of : Solid → Vector
+numbers_of (IsWedge w) = vector w.a w.b w.c
+numbers_of (IsStack k) = vector k.width k.height k.depth
 
-abbrev pub heightOf : Solid → ℤ
-heightOf (IsWedge w) = w.h
-heightOf (IsStack k) = pos 0
+abbrev pub height_of : Solid → ℤ
+height_of (IsWedge w) = w.h
+height_of (IsStack k) = pos 0
 
-abbrev pub solidOf : Bool → Vector → ℤ → Solid
-solidOf true n h = IsStack (record { width = n.x; height = n.y; depth = n.z })
-solidOf false n h = IsWedge (record { a = n.x; b = n.y; c = n.z; h = h })
+abbrev pub solid_of : Bool → Vector → ℤ → Solid
+solid_of true n h = IsStack (record { width = n.x; height = n.y; depth = n.z })
+solid_of false n h = IsWedge (record { a = n.x; b = n.y; c = n.z; h = h })

@@ -1,10 +1,10 @@
 // One call: a pick, a quick touch, a start check or a walk from a ready start. What is refused, in order, and the walk.
 ghost use Rattle.std.specs.Prelude.{◌≡◌, ◌≤◌};
 ghost use Rattle.laws.specs.Tally.{Countable};
-ghost use Rattle.falls.specs.Scene.{probeOf, Ready};
-ghost use Rattle.walk.specs.Walk.{walkQuestions};
-ghost use Rattle.call.specs.Numbers.{is_stack, numbersOf, heightOf, solidOf};
-ghost use Rattle.call.specs.Calls.{beginOf, readiedAs, RoundsBegun, end_of, CallMade};
+ghost use Rattle.falls.specs.Scene.{probe_of, Ready};
+ghost use Rattle.walk.specs.Walk.{walk_questions};
+ghost use Rattle.call.specs.Numbers.{is_stack, numbers_of, height_of, solid_of};
+ghost use Rattle.call.specs.Calls.{begin_of, readied_as, RoundsBegun, end_of, CallMade};
 
 use falls::Scene;
 use inputs::{Begin, Fit};
@@ -28,7 +28,7 @@ pub enum Outcome {
 }
 
 fn begin_of(call: Call) -> Begin
-    ensures { result ≡ beginOf call }
+    ensures { result ≡ begin_of call }
 {
     match call {
         Call::Pick(p) => Begin::Asked(false, p),
@@ -41,7 +41,7 @@ fn begin_of(call: Call) -> Begin
 // Refusal 13.
 fn judge_ready(d: ReadyStart, reach: u32) -> Start
     requires { reach ≤ 256 }
-    ensures { result ≡ readiedAs reach d }
+    ensures { result ≡ readied_as reach d }
 {
     if ready::is_ready(d, reach) {
         let level = d.level;
@@ -55,7 +55,7 @@ fn judge_ready(d: ReadyStart, reach: u32) -> Start
 // A start is asked; a ready start is judged, and asked no more.
 fn begin_rounds(begin: Begin, scene: Scene, bytes: &[u8]) -> Start
     requires { Ready scene bytes.now }
-    ensures { RoundsBegun begin (probeOf scene bytes.now) scene.reach result }
+    ensures { RoundsBegun begin (probe_of scene bytes.now) scene.reach result }
 {
     let reach = scene.reach;
     match begin {
@@ -66,7 +66,7 @@ fn begin_rounds(begin: Begin, scene: Scene, bytes: &[u8]) -> Start
 
 // A check ends with its ready start, the others walk to the end.
 fn end_call(call: Call, scene: Scene, bytes: &[u8], level: Levels, looks: u32) -> Outcome
-    requires { Ready scene bytes.now × Countable walkQuestions looks }
+    requires { Ready scene bytes.now × Countable walk_questions looks }
     ensures { result ≡ end_of call scene bytes.now level looks }
 {
     let q = scene.apex;
@@ -94,7 +94,7 @@ fn is_stack(solid: Solid) -> bool
 
 // A wedge's a, b and c, or a stack's sizes.
 fn numbers_of(solid: Solid) -> Vector
-    ensures { result ≡ numbersOf solid }
+    ensures { result ≡ numbers_of solid }
 {
     match solid {
         Solid::Wedge(w) => Vector {
@@ -112,7 +112,7 @@ fn numbers_of(solid: Solid) -> Vector
 
 // A wedge's h; a stack has none.
 fn height_of(solid: Solid) -> i32
-    ensures { result ≡ heightOf solid }
+    ensures { result ≡ height_of solid }
 {
     match solid {
         Solid::Wedge(w) => w.h,
@@ -121,7 +121,7 @@ fn height_of(solid: Solid) -> i32
 }
 
 fn solid_of(stack: bool, n: Vector, h: i32) -> Solid
-    ensures { result ≡ solidOf stack n h }
+    ensures { result ≡ solid_of stack n h }
 {
     if stack {
         return Solid::Stack(Stack {

@@ -8,8 +8,8 @@ use Rattle.rules.specs.declared.Choice.TheVariants.{Nothing, Chosen}
 use Rattle.rules.specs.Walk.{pairs}
 use Rattle.choice.specs.declared.Best.{Best}
 
-abbrev pub bestOf : ℕ → ℤ → Best
-bestOf x w = record { pair = x; weight = w }
+abbrev pub best_of : ℕ → ℤ → Best
+best_of x w = record { pair = x; weight = w }
 
 -- the pair of a number
 abbrev pub pair_at : ℕ → Pair
@@ -20,11 +20,11 @@ abbrev pub choice_of : ℕ → Choice
 choice_of n = get_or (map Chosen pairs) n Nothing
 
 -- while none fell: more than any weight (law `weight-below`)
-abbrev pub noWeight : ℤ
-noWeight = pos 10000000
+abbrev pub no_weight : ℤ
+no_weight = pos 10000000
 
-abbrev pub noneBest : Best
-noneBest = bestOf 6 noWeight
+abbrev pub none_best : Best
+none_best = best_of 6 no_weight
 
 -- the best so far and a pair more: whichever weighs less, of equals the first
 unfoldable pub lighter : Best → Best → Best

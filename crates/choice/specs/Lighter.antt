@@ -14,18 +14,18 @@ use Rattle.laws.specs.Tests.{less}
 use Rattle.laws.specs.Sphere.{weight, inside-by-weight, weight-fits}
 use Rattle.laws.specs.Choosing.{better}
 use Rattle.choice.specs.declared.Best.{Best}
-use Rattle.choice.specs.Best.{bestOf, pair_at, choice_of, noWeight, lighter}
+use Rattle.choice.specs.Best.{best_of, pair_at, choice_of, no_weight, lighter}
 use Rattle.choice.specs.Numbers.{chosen_at}
 use Rattle.choice.specs.Sound.{Sound, all-bounded}
 
 -- the weight of a choice
-abbrev pub bestWeight : Triangle → Choice → ℤ
-bestWeight m Nothing = noWeight
-bestWeight m (Chosen x) = weight m x
+abbrev pub best_weight : Triangle → Choice → ℤ
+best_weight m Nothing = no_weight
+best_weight m (Chosen x) = weight m x
 
 pub record Weighs (m : Triangle) (b : Best) : Type 0 where
   pub numbered : b.pair ≤ 6
-  pub weighs : b.weight ≡ bestWeight m (choice_of b.pair)
+  pub weighs : b.weight ≡ best_weight m (choice_of b.pair)
 
 -- the best of one pair more, of the number y
 pub record Preferred (m : Triangle) (sofar : Best) (y : ℕ) (r : Best) : Type 0 where
@@ -33,24 +33,24 @@ pub record Preferred (m : Triangle) (sofar : Best) (y : ℕ) (r : Best) : Type 0
   pub weighs : Weighs m r
 
 module _ {m : Triangle} (s : Sound m) where
-  weight-below : (x : Pair) → weight m x <ℤ noWeight
+  weight-below : (x : Pair) → weight m x <ℤ no_weight
   weight-below x = let h = weight-fits m (all-bounded s) x in omega (arith, parts, sizes)
 
   -- a lighter pair is the better one
-  lighter-better : (c : Choice) (x : Pair) → better m c x ≡ elim (lt_z (weight m x) (bestWeight m c)) [ true ↦ Chosen x | false ↦ c ]
+  lighter-better : (c : Choice) (x : Pair) → better m c x ≡ elim (lt_z (weight m x) (best_weight m c)) [ true ↦ Chosen x | false ↦ c ]
   unfolding better
-  lighter-better Nothing x = rw (less (weight m x) noWeight (weight-below x))
+  lighter-better Nothing x = rw (less (weight m x) no_weight (weight-below x))
   lighter-better (Chosen y) x = rw (inside-by-weight m s.unimodular y x, better)
 
   module _ {y : ℕ} (n : y < 6) where
-    lighter-preferred : {sofar : Best} → Weighs m sofar → Preferred m sofar y (lighter sofar (bestOf y (weight m (pair_at y))))
+    lighter-preferred : {sofar : Best} → Weighs m sofar → Preferred m sofar y (lighter sofar (best_of y (weight m (pair_at y))))
     unfolding lighter
     lighter-preferred {sofar} h = go (lt_z (weight m (pair_at y)) sofar.weight) (lighter-better (choice_of sofar.pair) (pair_at y) ∙ ap (λ (w : ℤ). elim (lt_z (weight m (pair_at y)) w) [ true ↦ Chosen (pair_at y) | false ↦ choice_of sofar.pair ]) (sym h.weighs))
       where
-        go : (b : Bool) → better m (choice_of sofar.pair) (pair_at y) ≡ elim b [ true ↦ Chosen (pair_at y) | false ↦ choice_of sofar.pair ] → Preferred m sofar y (elim b [ true ↦ bestOf y (weight m (pair_at y)) | false ↦ sofar ])
+        go : (b : Bool) → better m (choice_of sofar.pair) (pair_at y) ≡ elim b [ true ↦ Chosen (pair_at y) | false ↦ choice_of sofar.pair ] → Preferred m sofar y (elim b [ true ↦ best_of y (weight m (pair_at y)) | false ↦ sofar ])
         go true i = record { is = chosen_at y n ∙ sym i; weighs = record { numbered = omega arith; weighs = rw (chosen_at y n) } }
         go false i = record { is = sym i; weighs = h }
 
     -- as the code comes to it
-    pub prefers : {sofar next r : Best} {w : ℤ} → Weighs m sofar → w ≡ weight m (pair_at y) → next ≡ bestOf y w → r ≡ lighter sofar next → Preferred m sofar y r
+    pub prefers : {sofar next r : Best} {w : ℤ} → Weighs m sofar → w ≡ weight m (pair_at y) → next ≡ best_of y w → r ≡ lighter sofar next → Preferred m sofar y r
     prefers h e p q = rw (q, p, e) (lighter-preferred h)

@@ -6,8 +6,8 @@ use Rattle.rules.specs.declared.Choice.TheVariants.{Chosen}
 use Rattle.choice.specs.Best.{pair_at, choice_of}
 
 -- a number of the code, read back from its bits
-abbrev pub fromBits : ℤ → ℤ
-fromBits z = to_z w32 (of_z w32 z)
+abbrev pub from_bits : ℤ → ℤ
+from_bits z = to_z w32 (of_z w32 z)
 
 -- ---- numbers of pairs
 pub by-each : (P : ℕ → Type 0) → P 0 → P 1 → P 2 → P 3 → P 4 → P 5 → ((n : ℕ) → P (suc (suc (suc (suc (suc (suc n))))))) → (n : ℕ) → P n

@@ -2,7 +2,7 @@
 ghost use Rattle.std.specs.Prelude.{◌≡◌};
 ghost use Rattle.rules.specs.Vectors.{dot};
 ghost use Rattle.laws.specs.Bounds.{Bounded};
-ghost use Rattle.choice.specs.Best.{bestOf, noneBest, lighter};
+ghost use Rattle.choice.specs.Best.{best_of, none_best, lighter};
 
 use rules::Vector;
 
@@ -14,7 +14,7 @@ pub struct Best {
 }
 
 pub fn none() -> Best
-    ensures { result ≡ noneBest }
+    ensures { result ≡ none_best }
 {
     Best {
         pair: 6,
@@ -25,7 +25,7 @@ pub fn none() -> Best
 // The pair with its weight, m_l·(m_l - m_k), where l is m_l and w the way.
 pub fn weigh(pair: u32, l: Vector, w: Vector) -> Best
     requires { Bounded 10000 l × Bounded 10000 w }
-    ensures { result ≡ bestOf pair (dot l w) }
+    ensures { result ≡ best_of pair (dot l w) }
 {
     Best {
         pair: pair,

@@ -15,10 +15,10 @@ use Rattle.integers.specs.Tests.{not-second}
 use Rattle.rules.specs.declared.Light.{Light}
 use Rattle.rules.specs.declared.Display.{Display}
 use Rattle.rules.specs.declared.Display.TheVariants.{Lit, Unlit}
-use Rattle.rules.specs.Display.{squares, component, permittedNormal, light, display, DisplayPromise}
+use Rattle.rules.specs.Display.{squares, component, permitted_normal, light, display, DisplayPromise}
 use Rattle.display.specs.Parts.{in_range, Part, Sized, Shown, Parts}
 use Rattle.display.specs.Permitted.{permitted-parts}
-use Rattle.display.proofs.Bits.{readBack}
+use Rattle.display.proofs.Bits.{read_back}
 
 abbrev light-of : Float → Float → Float → Light
 light-of a b c = record { x = a; y = b; z = c }
@@ -27,37 +27,37 @@ light-of a b c = record { x = a; y = b; z = c }
 pub sum_fits : {s : ℕ} {x y z : ℤ} → Parts s x y z → Fits w32 s
 sum_fits P = let h = P.first.small in record { fits = omega arith }
 
-pub sized-back : {s one : ℕ} {n : ℤ} → SFits w32 n → Part s n → one ≤ 2 ^ 49 → Sized s one (readBack n)
+pub sized-back : {s one : ℕ} {n : ℤ} → SFits w32 n → Part s n → one ≤ 2 ^ 49 → Sized s one (read_back n)
 sized-back {s} b P h = record { part = subst (Part s) (sym (to_z-of_z b)) P; one-small = h }
 
 module _ {x y z : ℤ} (p : SFits w32 x) (q : SFits w32 y) (r : SFits w32 z) where
-  pub lit_is : {s : ℕ} {a b c : Float} → Parts s x y z → Shown s (readBack x) a → Shown s (readBack y) b → Shown s (readBack z) c → light-of a b c ≡ light x y z
+  pub lit_is : {s : ℕ} {a b c : Float} → Parts s x y z → Shown s (read_back x) a → Shown s (read_back y) b → Shown s (read_back z) c → light-of a b c ≡ light x y z
   unfolding light
   lit_is {s} P A B C = λ i. light-of (of p A i) (of q B i) (of r C i)
     where
-      of : {n : ℤ} {f : Float} → SFits w32 n → Shown s (readBack n) f → f ≡ component (squares x y z) n
+      of : {n : ℤ} {f : Float} → SFits w32 n → Shown s (read_back n) f → f ≡ component (squares x y z) n
       of {n} fits F = F.is ∙ ap (component s) (to_z-of_z fits) ∙ ap (λ (S : ℕ). component S n) P.is
 
   -- ---- `display_normal`: what holds of the bits holds of the numbers
-  pub promise-back : {d : Display} → DisplayPromise (readBack x) (readBack y) (readBack z) d → DisplayPromise x y z d
+  pub promise-back : {d : Display} → DisplayPromise (read_back x) (read_back y) (read_back z) d → DisplayPromise x y z d
   promise-back {d} P = subst₃ (λ (a b c : ℤ). DisplayPromise a b c d) (to_z-of_z p) (to_z-of_z q) (to_z-of_z r) P
 
-permitted : (x y z : ℤ) {s : ℕ} → s ≡ squares x y z → s ≢ 0 → (in_range x && (in_range y && in_range z)) ≡ true → permittedNormal x y z ≡ true
-unfolding permittedNormal
+permitted : (x y z : ℤ) {s : ℕ} → s ≡ squares x y z → s ≢ 0 → (in_range x && (in_range y && in_range z)) ≡ true → permitted_normal x y z ≡ true
+unfolding permitted_normal
 permitted x y z e some h = ap (λ (b : Bool). not b && (in_range x && (in_range y && in_range z))) (ne_eqb (squares x y z) 0 (λ f. some (e ∙ f))) ∙ h
 
 module _ {x y z : ℤ} {s : ℕ} (e : s ≡ squares x y z) where
-  dark : permittedNormal x y z ≡ false → DisplayPromise x y z (Unlit 30)
+  dark : permitted_normal x y z ≡ false → DisplayPromise x y z (Unlit 30)
   unfolding display
   dark h = record { is = rw (h, display) }
 
   pub dark-zero : s ≡ 0 → DisplayPromise x y z (Unlit 30)
-  unfolding permittedNormal
+  unfolding permitted_normal
   dark-zero h = dark (ap (λ (b : Bool). not b && (in_range x && (in_range y && in_range z))) (eq-eqb (squares x y z) 0 (sym e ∙ h)))
 
   module _ {t : Bool} (k : t ≡ (in_range x && (in_range y && in_range z))) where
     pub dark-outside : t ≡ false → DisplayPromise x y z (Unlit 30)
-    unfolding permittedNormal
+    unfolding permitted_normal
     dark-outside h = dark (not-second (not (eqb (squares x y z) 0)) (sym k ∙ h))
 
     module _ (some : s ≢ 0) (h : t ≡ true) where

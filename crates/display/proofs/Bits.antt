@@ -3,5 +3,5 @@ use lib.IntN.{ℤ}
 use mir.Syntax.{w32}
 use mir.Val.{to_z, of_z}
 
-abbrev pub readBack : ℤ → ℤ
-readBack n = to_z w32 (of_z w32 n)
+abbrev pub read_back : ℤ → ℤ
+read_back n = to_z w32 (of_z w32 n)

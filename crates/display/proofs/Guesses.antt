@@ -10,7 +10,7 @@ use mir.Syntax.{w32, w64}
 use mir.Val.{Fits, SFits}
 use mir.Facts.{Fits-le, Fits-lit, to_z-of_z}
 use Rattle.display.specs.Parts.{Sum, Sized}
-use Rattle.display.proofs.Bits.{readBack}
+use Rattle.display.proofs.Bits.{read_back}
 
 -- ---- a step: y is below 2^33/3, so that half as much again has 32 bits
 module _ (y : ℕ) (h : y * 3 < 2 ^ 33) where
@@ -66,10 +66,10 @@ module _ {S : ℕ} (P : Sum S) where
       le_trans (mod-le _ _) (mul-le-mul f (pow_mono k))
 
 -- ---- a guess: a number whose square is part of a sum is at most 1771
-pub guess-fits : {n : ℤ} {r : ℕ} (one : ℕ) → SFits w32 n → r ≡ nat_abs (readBack n) → nat_abs n * one < 2 ^ 64 → Fits w64 (r * one)
+pub guess-fits : {n : ℤ} {r : ℕ} (one : ℕ) → SFits w32 n → r ≡ nat_abs (read_back n) → nat_abs n * one < 2 ^ 64 → Fits w64 (r * one)
 guess-fits one b e h = record { fits = subst (λ (k : ℕ). k * one < 2 ^ 64) (sym (e ∙ ap nat_abs (to_z-of_z b))) h }
 
-pub guess-asks : {S one : ℕ} {n : ℤ} → SFits w32 n → Sized S one n → nat_abs (readBack n) * one < 2 ^ 64
+pub guess-asks : {S one : ℕ} {n : ℤ} → SFits w32 n → Sized S one n → nat_abs (read_back n) * one < 2 ^ 64
 guess-asks {S} {one} {n} b P =
     let part = P.part.part in
     let small = P.part.small in

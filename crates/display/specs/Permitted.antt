@@ -3,12 +3,12 @@ use Rattle.std.specs.Prelude.{◌≡◌, refl, true, not, ◌&&◌, ◌≤◌, e
 use Rattle.std.proofs.Common.{mul-le-mul, arith}
 use Rattle.std.proofs.lemmas.Bool.{eqb-false, not-true}
 use Rattle.integers.specs.Tests.{first_of, second-of}
-use Rattle.rules.specs.Display.{square, squares, permittedNormal}
+use Rattle.rules.specs.Display.{square, squares, permitted_normal}
 use Rattle.range.specs.Ranges.{between-within}
 use Rattle.display.specs.Parts.{in_range, Part, Parts}
 
-pub permitted-parts : (x y z : ℤ) → permittedNormal x y z ≡ true → Parts (squares x y z) x y z
-unfolding permittedNormal
+pub permitted-parts : (x y z : ℤ) → permitted_normal x y z ≡ true → Parts (squares x y z) x y z
+unfolding permitted_normal
 permitted-parts x y z e =
     let S = squares x y z in
     let size : (n : ℤ) → in_range n ≡ true → nat_abs n ≤ 1023 = λ n h. (between-within 1022 n (rw h tt)).size in

@@ -8,7 +8,7 @@ use Rattle.std.specs.Float.Ieee.Exact.{HasValue}
 use Rattle.rules.specs.declared.Light.{Light}
 use Rattle.rules.specs.declared.Display.{Display}
 use Rattle.rules.specs.declared.Display.TheVariants.{Lit, Unlit}
-use Rattle.rules.specs.Display.{square, squares, largest, size_of, isNegative, component, permittedNormal, light, display, DisplayPromise}
+use Rattle.rules.specs.Display.{square, squares, largest, size_of, is_negative, component, permitted_normal, light, display, DisplayPromise}
 use Rattle.display.specs.Parts.{Part}
 use Rattle.display.specs.Roots.{square-mono, largest-low, largest-within, largest-above}
 use Rattle.display.specs.Floats.{exact}
@@ -26,7 +26,7 @@ pub record LargestSize (S : ℕ) (n : ℤ) (m : ℕ) : Type 0 where
 pub record Exactly (S : ℕ) (n : ℤ) (f : Float) : Type 0 where
   pub m : ℕ
   pub size : LargestSize S n m
-  pub value : HasValue f (isNegative n) m 32768
+  pub value : HasValue f (is_negative n) m 32768
   pub zero-plus : n ≡ pos 0 → f ≡ fin false 0 (pos 0)
   pub other-not-zero : n ≢ pos 0 → 0 < m
 
@@ -74,8 +74,8 @@ module _ {S : ℕ} {n : ℤ} (P : Part S n) where
   displayed = record {
     m = size_of S n;
     size = size-largest P;
-    value = exact (isNegative n) (size_of S n) (size-largest P).bound;
-    zero-plus = λ e. (λ i. round binary32 (isNegative (e i)) (zero-size e i) 32768) ∙ plus-zero;
+    value = exact (is_negative n) (size_of S n) (size-largest P).bound;
+    zero-plus = λ e. (λ i. round binary32 (is_negative (e i)) (zero-size e i) 32768) ∙ plus-zero;
     other-not-zero = other-size;
   }
 
@@ -86,14 +86,14 @@ pub record Shows (x y z : ℤ) (l : Light) : Type 0 where
   pub third : Exactly (squares x y z) z l.z
 
 -- a permitted normal is lit, and its three floats say what they should
-pub permitted-is-lit : (x y z : ℤ) → permittedNormal x y z ≡ true → (display x y z ≡ Lit (light x y z)) × Shows x y z (light x y z)
+pub permitted-is-lit : (x y z : ℤ) → permitted_normal x y z ≡ true → (display x y z ≡ Lit (light x y z)) × Shows x y z (light x y z)
 unfolding light display
 permitted-is-lit x y z e =
     let P = permitted-parts x y z e in
     (rw (e, display), record { first = displayed P.first; second = displayed P.second; third = displayed P.third })
 
 -- any other is refused with 30
-pub other-is-refused : (x y z : ℤ) → permittedNormal x y z ≡ false → display x y z ≡ Unlit 30
+pub other-is-refused : (x y z : ℤ) → permitted_normal x y z ≡ false → display x y z ≡ Unlit 30
 unfolding display
 other-is-refused x y z e = rw (e, display)
 

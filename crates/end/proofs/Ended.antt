@@ -16,10 +16,10 @@ use Rattle.rules.specs.Walk.{stop, levelled, normal, Probe, laid, found, end}
 use Rattle.laws.specs.Frames.{Signs}
 use Rattle.laws.specs.Tally.{yes, no, Gives, then-yes, then-no, ensured, not-ensured, at_once}
 use Rattle.falls.specs.declared.Scene.{Scene}
-use Rattle.falls.specs.Scene.{probeOf, Ready}
+use Rattle.falls.specs.Scene.{probe_of, Ready}
 use Rattle.choice.specs.Sound.{Sound}
 use Rattle.round.specs.Corners.{laid-laid}
-use Rattle.refusals.specs.Refusals.{refusalOf}
+use Rattle.refusals.specs.Refusals.{refusal_of}
 use Rattle.walk.specs.Walk.{Walks}
 use Rattle.walk.specs.declared.Walked.{Walked}
 use Rattle.walk.specs.declared.Walked.TheVariants.{Ended as WalkEnded, Refused as WalkRefused}
@@ -39,10 +39,10 @@ module _ {v : Scene} {level : Levels} {m frame : Triangle} {steps looks : ℕ} {
   pub ended-accepted : {u : Vector} → Signs v.signs → k ≤ v.reach → u ≡ lay v.signs n
       → EndGives v level m steps looks (Accepted record { normal = u; triangle = m; apex = v.apex; steps = steps; looks = looks })
   unfolding found
-  ended-accepted g h e = record { gives = λ bytes. rw (e, a, w, l) (rw (laid-laid v.signs m g) at (end-accepted (probeOf v bytes) v.reach level (laid v.signs m) steps looks (le-leb _ _ (rw (b, a, w, l) at h)))) }
+  ended-accepted g h e = record { gives = λ bytes. rw (e, a, w, l) (rw (laid-laid v.signs m g) at (end-accepted (probe_of v bytes) v.reach level (laid v.signs m) steps looks (le-leb _ _ (rw (b, a, w, l) at h)))) }
 
-  pub ended-refused : {r : Refused} → v.reach < k → r ≡ refusalOf 10 v.apex steps looks → EndGives v level m steps looks (IsRefused r)
-  ended-refused h e = record { gives = λ bytes. rw e (end_refused (probeOf v bytes) v.reach level (laid v.signs m) steps looks (lt-leb _ _ (rw (b, a, w, l) at h))) }
+  pub ended-refused : {r : Refused} → v.reach < k → r ≡ refusal_of 10 v.apex steps looks → EndGives v level m steps looks (IsRefused r)
+  ended-refused h e = record { gives = λ bytes. rw e (end_refused (probe_of v bytes) v.reach level (laid v.signs m) steps looks (lt-leb _ _ (rw (b, a, w, l) at h))) }
 
 pub ruleset ending = (ended-accepted, ended-refused)
 
@@ -55,7 +55,7 @@ module _ {c : Probe} {R : ℕ} {level : Levels} {looks : ℕ} {walked : Walked} 
   walked-refused e = record { gives = then-no _ (rw e at h.gives) }
 
 pub walked-ended : {v : Scene} {bytes : List ℕ} {level : Levels} {looks : ℕ} {walked : Walked} {m : Triangle} {steps k : ℕ} {r : Pick}
-    → Ready v bytes → Walks (probeOf v bytes) v.reach level looks walked → walked ≡ WalkEnded m steps k → EndGives v level m steps k r → WalkedToEnd (probeOf v bytes) v.reach level looks r
+    → Ready v bytes → Walks (probe_of v bytes) v.reach level looks walked → walked ≡ WalkEnded m steps k → EndGives v level m steps k r → WalkedToEnd (probe_of v bytes) v.reach level looks r
 walked-ended {bytes = bytes} ready h e g = record { gives = then-yes _ (rw e at h.gives) (g.gives bytes) }
 
 pub ruleset walking = (walked-refused, walked-ended)

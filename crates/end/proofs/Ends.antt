@@ -10,7 +10,7 @@ use Rattle.rules.specs.declared.Vector.{Vector}
 use Rattle.rules.specs.declared.Levels.{Levels}
 use Rattle.rules.specs.declared.Triangle.{Triangle}
 use Rattle.rules.specs.Vectors.{◌⊕◌, cross}
-use Rattle.rules.specs.Walk.{unlessLevel, levelled, normal, laid}
+use Rattle.rules.specs.Walk.{unless_level, levelled, normal, laid}
 use Rattle.laws.specs.Triples.{All}
 use Rattle.laws.specs.Frames.{Signs}
 use Rattle.laws.specs.Bounds.{Bounded, bounded-is, bounded-wider, bounded-sum, bounded-cross, bounded-lay}
@@ -37,7 +37,7 @@ normal-bounded h =
     bounded-wider (bounded-sum (bounded-sum (bounded-cross h.in0 h.in1) (bounded-cross h.in1 h.in2)) (bounded-cross h.in2 h.in0)) (lit≤ tt)
 
 -- with 0 for the parts of level axes
-part-bounded : (b : Bool) {k : ℕ} {z : ℤ} → Within k z → Within k (unlessLevel b z)
+part-bounded : (b : Bool) {k : ℕ} {z : ℤ} → Within k z → Within k (unless_level b z)
 part-bounded true h = record { size = omega arith }
 part-bounded false h = h
 

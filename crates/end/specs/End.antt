@@ -7,18 +7,18 @@ use Rattle.rules.specs.declared.Pick.TheVariants.{Accepted, Refused}
 use Rattle.rules.specs.Asked.{◌>>=◌}
 use Rattle.rules.specs.Walk.{Stop, Probe, Found, laid, rounds, end}
 use Rattle.laws.specs.Tally.{Tally, yes, Gives}
-use Rattle.laws.specs.Answers.{foundOf}
+use Rattle.laws.specs.Answers.{found_of}
 use Rattle.falls.specs.declared.Scene.{Scene}
-use Rattle.falls.specs.Scene.{probeOf}
-use Rattle.refusals.specs.Refusals.{refusalTally}
+use Rattle.falls.specs.Scene.{probe_of}
+use Rattle.refusals.specs.Refusals.{refusal_tally}
 
-abbrev pub pickTally : Pick → Tally Stop Found
-pickTally (Accepted a) = yes (foundOf a) a.looks
-pickTally (Refused r) = refusalTally r
+abbrev pub pick_tally : Pick → Tally Stop Found
+pick_tally (Accepted a) = yes (found_of a) a.looks
+pick_tally (Refused r) = refusal_tally r
 
 -- the end of a walk with the triangle m, laid in. It asks nothing, so the bytes play no part
 pub record EndGives (v : Scene) (level : Levels) (m : Triangle) (steps looks : ℕ) (r : Pick) : Type 0 where
-  pub gives : (bytes : List ℕ) → Gives looks (end (probeOf v bytes) v.reach level (laid v.signs m, steps)) (pickTally r)
+  pub gives : (bytes : List ℕ) → Gives looks (end (probe_of v bytes) v.reach level (laid v.signs m, steps)) (pick_tally r)
 
 pub record WalkedToEnd (c : Probe) (R : ℕ) (level : Levels) (looks : ℕ) (r : Pick) : Type 0 where
-  pub gives : Gives looks (rounds c R level >>= end c R level) (pickTally r)
+  pub gives : Gives looks (rounds c R level >>= end c R level) (pick_tally r)

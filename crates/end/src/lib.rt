@@ -1,13 +1,13 @@
 // The end of a walk: its rounds, and what was found when no pair falls.
 ghost use Rattle.std.specs.Prelude.{◌≡◌};
-ghost use Rattle.rules.specs.Walk.{unlessLevel, levelled, normal, laid};
+ghost use Rattle.rules.specs.Walk.{unless_level, levelled, normal, laid};
 ghost use Rattle.laws.specs.Triples.{All};
 ghost use Rattle.laws.specs.Bounds.{Bounded};
 ghost use Rattle.laws.specs.Frames.{Signs};
 ghost use Rattle.laws.specs.Tally.{Countable};
-ghost use Rattle.falls.specs.Scene.{probeOf, Ready};
+ghost use Rattle.falls.specs.Scene.{probe_of, Ready};
 ghost use Rattle.choice.specs.Sound.{Sound};
-ghost use Rattle.walk.specs.Walk.{walkQuestions};
+ghost use Rattle.walk.specs.Walk.{walk_questions};
 ghost use Rattle.end.specs.End.{EndGives, WalkedToEnd};
 
 use falls::Scene;
@@ -47,7 +47,7 @@ fn lay_triangle(s: Vector, m: Triangle) -> Triangle
 }
 
 fn unless_level(level: bool, z: i32) -> i32
-    ensures { result ≡ unlessLevel level z }
+    ensures { result ≡ unless_level level z }
 {
     if level { 0 } else { z }
 }
@@ -91,8 +91,8 @@ fn end_walk(scene: Scene, level: Levels, m: Triangle, steps: u32, looks: u32) ->
 
 // The rounds and the end, with the level axes known.
 pub fn walk_to_end(scene: Scene, bytes: &[u8], level: Levels, looks: u32) -> Pick
-    requires { Ready scene bytes.now × Countable walkQuestions looks }
-    ensures { WalkedToEnd (probeOf scene bytes.now) scene.reach level looks result }
+    requires { Ready scene bytes.now × Countable walk_questions looks }
+    ensures { WalkedToEnd (probe_of scene bytes.now) scene.reach level looks result }
 {
     let walked = walk::walk_on(scene, bytes, level, looks);
     match walked {

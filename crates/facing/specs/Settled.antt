@@ -3,17 +3,17 @@ use Rattle.std.specs.Prelude.{◌≡◌, refl, ℕ}
 use Rattle.std.proofs.Common.{sym, ◌∙◌}
 use Rattle.rules.specs.declared.Vector.{Vector}
 use Rattle.rules.specs.Walk.{Stop, Probe}
-use Rattle.rules.specs.Pick.{refusedAnswer}
+use Rattle.rules.specs.Pick.{refused_answer}
 use Rattle.laws.specs.Tally.{Tally, yes, no, gives-settled}
 use Rattle.facing.specs.declared.Cleared.{Cleared}
 use Rattle.facing.specs.declared.Cleared.TheVariants.{Clear, Refused as IsRefused}
-use Rattle.facing.specs.Facing.{clearedTally, FacingAsked, CornerAt, CornersAsked}
+use Rattle.facing.specs.Facing.{cleared_tally, FacingAsked, CornerAt, CornersAsked}
 
 made : Tally Stop (Unit {0}) → Cleared
 made (yes t k) = Clear k
-made (no s k) = IsRefused (refusedAnswer s k)
+made (no s k) = IsRefused (refused_answer s k)
 
-made_again : (r : Cleared) → made (clearedTally r) ≡ r
+made_again : (r : Cleared) → made (cleared_tally r) ≡ r
 unfolding made
 made_again (Clear k) = refl
 made_again (IsRefused r) = refl

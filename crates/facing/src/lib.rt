@@ -4,8 +4,8 @@ ghost use Rattle.rules.specs.Vectors.{minus, lay};
 ghost use Rattle.laws.specs.Bounds.{Bounded};
 ghost use Rattle.laws.specs.Frames.{Signs};
 ghost use Rattle.laws.specs.Tally.{Countable};
-ghost use Rattle.falls.specs.Scene.{probeOf, Ready};
-ghost use Rattle.facing.specs.Facing.{clearedLooks, FacingAsked, CornerAt, CornerAsked, CornersAsked};
+ghost use Rattle.falls.specs.Scene.{probe_of, Ready};
+ghost use Rattle.facing.specs.Facing.{cleared_looks, FacingAsked, CornerAt, CornerAsked, CornersAsked};
 
 use falls::Scene;
 use rules::{Look, Refused, Vector};
@@ -20,7 +20,7 @@ pub enum Cleared {
 // Look at p, then, if p is filled, q.
 pub fn face(scene: Scene, bytes: &[u8], p: Vector) -> Cleared
     requires { Ready scene bytes.now }
-    ensures { FacingAsked (probeOf scene bytes.now) p result }
+    ensures { FacingAsked (probe_of scene bytes.now) p result }
 {
     let solid = scene.solid;
     let q = scene.apex;
@@ -63,8 +63,8 @@ pub fn corner(scene: Scene, e: Vector) -> Vector
 
 // One corner more, q less the unit vector e: refusal 11 if it isn't filled.
 fn ask_corner(scene: Scene, bytes: &[u8], e: Vector, sofar: Cleared) -> Cleared
-    requires { Ready scene bytes.now × Bounded 1 e × Countable 1 (clearedLooks sofar) }
-    ensures { CornerAsked (probeOf scene bytes.now) e sofar result }
+    requires { Ready scene bytes.now × Bounded 1 e × Countable 1 (cleared_looks sofar) }
+    ensures { CornerAsked (probe_of scene bytes.now) e sofar result }
 {
     match sofar {
         Cleared::Refused(r) => Cleared::Refused(r),
@@ -85,7 +85,7 @@ fn ask_corner(scene: Scene, bytes: &[u8], e: Vector, sofar: Cleared) -> Cleared
 // Axis 0, 1, 2.
 pub fn ask_corners(scene: Scene, bytes: &[u8], looks: u32) -> Cleared
     requires { Ready scene bytes.now × Countable 3 looks }
-    ensures { CornersAsked (probeOf scene bytes.now) looks result }
+    ensures { CornersAsked (probe_of scene bytes.now) looks result }
 {
     let a = ask_corner(
         scene,

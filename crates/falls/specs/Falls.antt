@@ -3,25 +3,25 @@ use Rattle.std.specs.Prelude.{◌≡◌, Bool, true, false, ℕ, ◌+◌, ◌≤
 use Rattle.rules.specs.declared.Vector.{Vector}
 use Rattle.rules.specs.declared.Look.{Look}
 use Rattle.rules.specs.Vectors.{◌⊕◌, scale, dot}
-use Rattle.rules.specs.Walk.{powersFrom, powers, fallsAt, Probe, falls}
+use Rattle.rules.specs.Walk.{powers_from, powers, falls_at, Probe, falls}
 use Rattle.laws.specs.Bounds.{Bounded}
-use Rattle.laws.specs.Tally.{Tally, yes, no, Gives, mostLooks}
+use Rattle.laws.specs.Tally.{Tally, yes, no, Gives, most_looks}
 use Rattle.falls.specs.declared.Falls.{Falls}
 use Rattle.falls.specs.declared.Falls.TheVariants.{Fell, Kept, Stopped}
 
-abbrev pub fallsTally : Falls → Tally Vector Bool
-fallsTally (Fell n) = yes true n
-fallsTally (Kept n) = yes false n
-fallsTally (Stopped p n) = no p n
+abbrev pub falls_tally : Falls → Tally Vector Bool
+falls_tally (Fell n) = yes true n
+falls_tally (Kept n) = yes false n
+falls_tally (Stopped p n) = no p n
 
-abbrev pub fallsLooks : Falls → ℕ
-fallsLooks (Fell n) = n
-fallsLooks (Kept n) = n
-fallsLooks (Stopped p n) = n
+abbrev pub falls_looks : Falls → ℕ
+falls_looks (Fell n) = n
+falls_looks (Kept n) = n
+falls_looks (Stopped p n) = n
 
 pub record Fallen (c : Probe) (u : Vector) (looks : ℕ) (r : Falls) : Type 0 where
-  pub gives : Gives looks (falls c u) (fallsTally r)
-  pub few : fallsLooks r ≤ looks + mostLooks 1
+  pub gives : Gives looks (falls c u) (falls_tally r)
+  pub few : falls_looks r ≤ looks + most_looks 1
 
 -- before the look at power l, after n looks: what is left of the powers gives what all of them give. r has the ranks
 pub record Falling (look : Vector → Look) (r q u : Vector) (span looks l n : ℕ) (at : Vector) (rank : ℤ) : Type 0 where
@@ -33,4 +33,4 @@ pub record Falling (look : Vector → Look) (r q u : Vector) (span looks l n : �
   pub few : n < looks + l
   pub fuel : ℕ
   pub enough : span ≤ l + fuel
-  pub rest : {t : Tally Vector Bool} → Gives n (fallsAt look q u (powersFrom fuel l span)) t → Gives looks (fallsAt look q u (powers span)) t
+  pub rest : {t : Tally Vector Bool} → Gives n (falls_at look q u (powers_from fuel l span)) t → Gives looks (falls_at look q u (powers span)) t

@@ -6,7 +6,7 @@ use Rattle.rules.specs.declared.Vector.{Vector}
 use Rattle.rules.specs.Vectors.{◌⊖◌, dot}
 use Rattle.laws.specs.Bounds.{Bounded, bounded-is, bounded-wider, bounded-difference}
 use Rattle.solid.specs.declared.Grid.{Grid}
-use Rattle.solid.specs.Grid.{ranksOf, GridRanks}
+use Rattle.solid.specs.Grid.{ranks_of, GridRanks}
 use Rattle.solid.specs.Ranks.{rank-within}
 use Rattle.falls.specs.declared.Scene.{Scene}
 use Rattle.falls.specs.Scene.{Ready}
@@ -19,7 +19,7 @@ module _ {v : Scene} {bytes : List ℕ} (h : Ready v bytes) where
   pub here-within : Within (67536 * 1023) v.here
   here-within = within-is h.ranked (rank-within v.solid h.permitted (apex-bounded h))
 
-  pub ranked-within : {n : ℕ} {a : Vector} {z : ℤ} → Bounded n a → z ≡ dot (ranksOf v.solid) a → Within (67536 * n) z
+  pub ranked-within : {n : ℕ} {a : Vector} {z : ℤ} → Bounded n a → z ≡ dot (ranks_of v.solid) a → Within (67536 * n) z
   ranked-within b e = within-is e (rank-within v.solid h.permitted b)
 
   pub way-fits : {u : Vector} → Bounded 2046 u → Bounded 1000000000 v.apex × Bounded 1000000000 u

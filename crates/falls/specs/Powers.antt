@@ -12,7 +12,7 @@ use Rattle.integers.specs.Reify.{byring, sides}
 use Rattle.rules.specs.Vectors.{◌⊕◌, ◌⊖◌, scale, dot}
 use Rattle.laws.specs.Bounds.{Bounded, bounded-is, bounded-wider, bounded-sum, bounded-difference}
 use Rattle.laws.specs.Parts.{part, part-sum, part-difference, part-scale, vector-by-parts, dot-sum, dot-difference}
-use Rattle.rules.specs.Walk.{powersFrom, powers, fallsAt, Probe}
+use Rattle.rules.specs.Walk.{powers_from, powers, falls_at, Probe}
 use Rattle.laws.specs.Tally.{Tally, yes, no, Gives, then-yes, then-no, at_once, filled-there, empty-there, outside-there}
 use Rattle.falls.specs.Falls.{Fallen, Falling}
 use Rattle.falls.specs.declared.Falls.{Falls}
@@ -26,40 +26,40 @@ module _ (look : Vector → Look) (q u : Vector) (span l n : ℕ) where
   -- the powers behind l
   behind : ℕ → List ℕ
   behind zero = []
-  behind (suc fuel) = elim (leb span l) [ true ↦ [] | false ↦ powersFrom fuel (l + l) span ]
+  behind (suc fuel) = elim (leb span l) [ true ↦ [] | false ↦ powers_from fuel (l + l) span ]
 
   none-behind : (fuel : ℕ) → span ≤ l → behind fuel ≡ []
   unfolding behind
   none-behind zero h = refl
   none-behind (suc fuel) h = rw (le-leb span l h, behind)
 
-  more-behind : (fuel : ℕ) → l < span → behind (suc fuel) ≡ powersFrom fuel (l + l) span
+  more-behind : (fuel : ℕ) → l < span → behind (suc fuel) ≡ powers_from fuel (l + l) span
   unfolding behind
   more-behind fuel h = rw (lt-leb span l h, behind)
 
   -- the question from l on is one look and then the powers behind
-  from : (fuel : ℕ) {r : Tally Vector Bool} → Gives n (fallsAt look q u (l ∷ behind fuel)) r → Gives n (fallsAt look q u (powersFrom fuel l span)) r
-  unfolding powersFrom behind
+  from : (fuel : ℕ) {r : Tally Vector Bool} → Gives n (falls_at look q u (l ∷ behind fuel)) r → Gives n (falls_at look q u (powers_from fuel l span)) r
+  unfolding powers_from behind
   from zero h = h
   from (suc fuel) h = h
 
-  filled_at : (fuel : ℕ) → look there ≡ Filled → Gives n (fallsAt look q u (powersFrom fuel l span)) (yes true (n + 1))
-  unfolding fallsAt there
+  filled_at : (fuel : ℕ) → look there ≡ Filled → Gives n (falls_at look q u (powers_from fuel l span)) (yes true (n + 1))
+  unfolding falls_at there
   filled_at fuel e = from fuel (then-yes _ (filled-there look n there e) at_once)
 
-  outside-at : (fuel : ℕ) → look there ≡ Outside → Gives n (fallsAt look q u (powersFrom fuel l span)) (no there n)
-  unfolding fallsAt there
+  outside-at : (fuel : ℕ) → look there ≡ Outside → Gives n (falls_at look q u (powers_from fuel l span)) (no there n)
+  unfolding falls_at there
   outside-at fuel e = from fuel (then-no _ (outside-there look n there e))
 
-  empty-at : (fuel : ℕ) {r : Tally Vector Bool} → look there ≡ Empty → Gives (n + 1) (fallsAt look q u (behind fuel)) r → Gives n (fallsAt look q u (powersFrom fuel l span)) r
-  unfolding fallsAt there
+  empty-at : (fuel : ℕ) {r : Tally Vector Bool} → look there ≡ Empty → Gives (n + 1) (falls_at look q u (behind fuel)) r → Gives n (falls_at look q u (powers_from fuel l span)) r
+  unfolding falls_at there
   empty-at fuel e h = from fuel (then-yes _ (empty-there look n there e) h)
 
-  last-at : (fuel : ℕ) → look there ≡ Empty → span ≤ l → Gives n (fallsAt look q u (powersFrom fuel l span)) (yes false (n + 1))
-  unfolding fallsAt
+  last-at : (fuel : ℕ) → look there ≡ Empty → span ≤ l → Gives n (falls_at look q u (powers_from fuel l span)) (yes false (n + 1))
+  unfolding falls_at
   last-at fuel e h = empty-at fuel e (rw (none-behind fuel h) at_once)
 
-  next-at : (fuel : ℕ) {r : Tally Vector Bool} → look there ≡ Empty → l < span → Gives (n + 1) (fallsAt look q u (powersFrom fuel (l + l) span)) r → Gives n (fallsAt look q u (powersFrom (suc fuel) l span)) r
+  next-at : (fuel : ℕ) {r : Tally Vector Bool} → look there ≡ Empty → l < span → Gives (n + 1) (falls_at look q u (powers_from fuel (l + l) span)) r → Gives n (falls_at look q u (powers_from (suc fuel) l span)) r
   next-at fuel e h g = empty-at (suc fuel) e (rw (more-behind fuel h) g)
 
 -- ---- the loop: from what holds before a look and what the look was, to what holds after it

@@ -5,14 +5,14 @@ use Rattle.rules.specs.Walk.{Probe}
 use Rattle.laws.specs.Tally.{Tally, yes, no, gives-settled}
 use Rattle.falls.specs.declared.Falls.{Falls}
 use Rattle.falls.specs.declared.Falls.TheVariants.{Fell, Kept, Stopped}
-use Rattle.falls.specs.Falls.{fallsTally, Fallen}
+use Rattle.falls.specs.Falls.{falls_tally, Fallen}
 
 made : Tally Vector Bool → Falls
 made (yes true n) = Fell n
 made (yes false n) = Kept n
 made (no p n) = Stopped p n
 
-made_again : (r : Falls) → made (fallsTally r) ≡ r
+made_again : (r : Falls) → made (falls_tally r) ≡ r
 unfolding made
 made_again (Fell n) = refl
 made_again (Kept n) = refl

@@ -3,8 +3,8 @@ ghost use Rattle.std.specs.Prelude.{◌≡◌};
 ghost use Rattle.rules.specs.Vectors.{dot};
 ghost use Rattle.laws.specs.Bounds.{Bounded};
 ghost use Rattle.laws.specs.Tally.{Countable};
-ghost use Rattle.solid.specs.Grid.{ranksOf};
-ghost use Rattle.falls.specs.Scene.{probeOf, Ready};
+ghost use Rattle.solid.specs.Grid.{ranks_of};
+ghost use Rattle.falls.specs.Scene.{probe_of, Ready};
 ghost use Rattle.falls.specs.Falls.{Fallen};
 
 use rules::{Look, Solid, Vector};
@@ -32,8 +32,8 @@ pub enum Falls {
 
 // Whether u, laid in and of the rank `rise`, falls: powers upward from 1 to the first that is at least the span, each point twice as far from the apex as the one before.
 pub fn ask_falls(scene: Scene, bytes: &[u8], u: Vector, rise: i32, looks: u32) -> Falls
-    requires { Ready scene bytes.now × Bounded 2046 u × (rise ≡ dot (ranksOf scene.solid) u) × Countable 1 looks }
-    ensures { Fallen (probeOf scene bytes.now) u looks result }
+    requires { Ready scene bytes.now × Bounded 2046 u × (rise ≡ dot (ranks_of scene.solid) u) × Countable 1 looks }
+    ensures { Fallen (probe_of scene bytes.now) u looks result }
 {
     let solid = scene.solid;
     let grid = scene.grid;

@@ -23,11 +23,11 @@ use Rattle.rules.specs.declared.Firm.TheVariants.{Stands, Refused as FirmRefused
 use Rattle.rules.specs.Solids.{between, permitted, look}
 use Rattle.rules.specs.Asked.{Asked, answered, refused}
 use Rattle.rules.specs.Walk.{Stop}
-use Rattle.rules.specs.Pick.{refusedAnswer}
-use Rattle.rules.specs.Firm.{firmUnder, firmOn, firm, firmAnswer, firmOf, WedgeFirmPromise, StackFirmPromise}
+use Rattle.rules.specs.Pick.{refused_answer}
+use Rattle.rules.specs.Firm.{firm_under, firm_on, firm, firm_answer, firm_of, WedgeFirmPromise, StackFirmPromise}
 use Rattle.laws.specs.Tally.{Tally, yes, no, tally, Gives, refused-at-once}
 use Rattle.inputs.specs.Judging.{reach-refused, frame_refused, solid-refused, solid-permitted}
-use Rattle.firm.specs.Firm.{firmTally, refusedWith, FirmUnder, FirmOf, FirmOn}
+use Rattle.firm.specs.Firm.{firm_tally, refused_with, FirmUnder, FirmOf, FirmOn}
 
 -- ---- numbers as they were read from bits
 abbrev bits : ℤ → ℤ
@@ -38,7 +38,7 @@ firm-read f g h = rw (to_z-of_z f, to_z-of_z g) at h
 
 -- ---- a refused pick has no footing
 module _ {solid : Solid} {bytes : List ℕ} {pick : Pick} {frame reach : ℕ} where
-  pub of-refused : {t : RefusedPick} {r : Firm} → pick ≡ Refused t → r ≡ refusedWith 35 → FirmOf solid bytes pick frame reach r
+  pub of-refused : {t : RefusedPick} {r : Firm} → pick ≡ Refused t → r ≡ refused_with 35 → FirmOf solid bytes pick frame reach r
   of-refused j f = record { gives = rw (j, f) refused-at-once }
 
   pub of-accepted : {t : AcceptedPick} {r : Firm} → pick ≡ Accepted t → FirmUnder solid bytes t frame reach r → FirmOf solid bytes pick frame reach r
@@ -48,26 +48,26 @@ pub ruleset of-answer = (of-refused, of-accepted)
 
 -- ---- the refusals, and the rest after 1, 2 and 3
 abbrev rest : Solid → List ℕ → Pick → ℤ → ℤ → Asked Stop (ℕ × Bound)
-rest solid bytes pick frame reach = firmOn (look solid bytes) frame reach pick
+rest solid bytes pick frame reach = firm_on (look solid bytes) frame reach pick
 
 -- only the sizes of the frame and of the reach are read
-of_size : {solid : Solid} {bytes : List ℕ} (frame reach : ℤ) (pick : Pick) {r : Firm} → FirmOf solid bytes pick (nat_abs frame) (nat_abs reach) r → Gives 0 (rest solid bytes pick frame reach) (firmTally r)
-unfolding firmUnder
+of_size : {solid : Solid} {bytes : List ℕ} (frame reach : ℤ) (pick : Pick) {r : Firm} → FirmOf solid bytes pick (nat_abs frame) (nat_abs reach) r → Gives 0 (rest solid bytes pick frame reach) (firm_tally r)
+unfolding firm_under
 of_size frame reach (Accepted a) h = h.gives
 of_size frame reach (Refused t) h = h.gives
 
 module _ {solid : Solid} {bytes : List ℕ} {pick : Pick} {frame reach : ℤ} {a : Bool} (m : SFits w32 frame) (n : SFits w32 reach) (ha : a ≡ between (pos 1) (bits reach) (pos 256)) where
-  pub on-reach : {r : Firm} → a ≡ false → r ≡ refusedWith 1 → FirmOn solid bytes pick frame reach r
+  pub on-reach : {r : Firm} → a ≡ false → r ≡ refused_with 1 → FirmOn solid bytes pick frame reach r
   unfolding firm
   on-reach e f = firm-read m n (record { gives = rw f (reach-refused (permitted solid bytes) (bits frame) (bits reach) (rest solid bytes pick (bits frame) (bits reach)) (sym ha ∙ e)) })
 
   module _ {b : Bool} (e : a ≡ true) (hb : b ≡ between (pos 0) (bits frame) (pos 7)) where
-    pub on-frame : {r : Firm} → b ≡ false → r ≡ refusedWith 2 → FirmOn solid bytes pick frame reach r
+    pub on-frame : {r : Firm} → b ≡ false → r ≡ refused_with 2 → FirmOn solid bytes pick frame reach r
     unfolding firm
     on-frame g f = firm-read m n (record { gives = rw f (frame_refused (permitted solid bytes) (bits frame) (bits reach) (rest solid bytes pick (bits frame) (bits reach)) (sym ha ∙ e) (sym hb ∙ g)) })
 
     module _ {d : Bool} (g : b ≡ true) (hd : d ≡ permitted solid bytes) where
-      pub on-solid : {r : Firm} → d ≡ false → r ≡ refusedWith 3 → FirmOn solid bytes pick frame reach r
+      pub on-solid : {r : Firm} → d ≡ false → r ≡ refused_with 3 → FirmOn solid bytes pick frame reach r
       unfolding firm
       on-solid i f = firm-read m n (record { gives = rw f (solid-refused (permitted solid bytes) (bits frame) (bits reach) (rest solid bytes pick (bits frame) (bits reach)) (sym ha ∙ e) (sym hb ∙ g) (sym hd ∙ i)) })
 
@@ -81,20 +81,20 @@ pub ruleset on = (on-reach, on-frame, on-solid, on-answer)
 -- ---- the answer
 made : Tally Stop (ℕ × Bound) → Firm
 made (yes f n) = Stands (record { power = f.0; looks = n; bound = f.1 })
-made (no s n) = FirmRefused (refusedAnswer s n)
+made (no s n) = FirmRefused (refused_answer s n)
 
-made_again : (r : Firm) → r ≡ made (firmTally r)
+made_again : (r : Firm) → r ≡ made (firm_tally r)
 unfolding made
 made_again (Stands f) = refl
 made_again (FirmRefused r) = refl
 
-made-answer : (x : Asked Stop (ℕ × Bound)) → made (tally 0 x) ≡ firmAnswer x
-unfolding made tally firmAnswer
+made-answer : (x : Asked Stop (ℕ × Bound)) → made (tally 0 x) ≡ firm_answer x
+unfolding made tally firm_answer
 made-answer (answered f t) = let e : 0 + length t ≡ length t = omega arith in ap (λ (n : ℕ). Stands (record { power = f.0; looks = n; bound = f.1 })) e
-made-answer (refused s t) = let e : 0 + length t ≡ length t = omega arith in ap (λ (n : ℕ). FirmRefused (refusedAnswer s n)) e
+made-answer (refused s t) = let e : 0 + length t ≡ length t = omega arith in ap (λ (n : ℕ). FirmRefused (refused_answer s n)) e
 
-firm-is : {solid : Solid} {bytes : List ℕ} {pick : Pick} {frame reach : ℤ} {r : Firm} → FirmOn solid bytes pick frame reach r → r ≡ firmOf solid bytes pick frame reach
-unfolding firmOf
+firm-is : {solid : Solid} {bytes : List ℕ} {pick : Pick} {frame reach : ℤ} {r : Firm} → FirmOn solid bytes pick frame reach r → r ≡ firm_of solid bytes pick frame reach
+unfolding firm_of
 firm-is {r = r} h = made_again r ∙ ap made h.gives.is ∙ made-answer _
 
 pub of-wedge : {w : Wedge} {pick : Pick} {frame reach : ℤ} {r : Firm} → SFits w32 frame → SFits w32 reach → FirmOn (IsWedge w) [] pick (bits frame) (bits reach) r → WedgeFirmPromise w pick frame reach r

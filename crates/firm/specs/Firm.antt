@@ -16,30 +16,30 @@ use Rattle.rules.specs.Asked.{Asked, answered, ◌>>=◌, ◌>>◌}
 use Rattle.rules.specs.Walk.{Stop, signs, powers, Probe, facing}
 use Rattle.rules.specs.Pick.{placing}
 use Rattle.rules.specs.Lean.{bound_at}
-use Rattle.rules.specs.Firm.{allWays, footing, firmFrom, startUnder, firmUnder, firmOn, firm}
+use Rattle.rules.specs.Firm.{all_ways, footing, firm_from, start_under, firm_under, firm_on, firm}
 use Rattle.laws.specs.Tally.{Tally, yes, no, tally, Gives}
 use Rattle.solid.specs.Asks.{InBoxOf}
-use Rattle.refusals.specs.Refusals.{refusalOf, refusalTally}
+use Rattle.refusals.specs.Refusals.{refusal_of, refusal_tally}
 use Rattle.facing.specs.declared.Cleared.{Cleared}
 use Rattle.facing.specs.declared.Cleared.TheVariants.{Clear, Refused as IsRefused}
-use Rattle.facing.specs.Facing.{clearedTally, FacingAsked}
+use Rattle.facing.specs.Facing.{cleared_tally, FacingAsked}
 use Rattle.footing.specs.declared.Ground.{Ground}
 use Rattle.footing.specs.Footing.{vectors_of}
 
-abbrev pub footingTally : Footing → Tally Stop (ℕ × Bound)
-footingTally f = yes (f.power, f.bound) f.looks
+abbrev pub footing_tally : Footing → Tally Stop (ℕ × Bound)
+footing_tally f = yes (f.power, f.bound) f.looks
 
-abbrev pub firmTally : Firm → Tally Stop (ℕ × Bound)
-firmTally (Stands f) = footingTally f
-firmTally (Refused r) = refusalTally r
+abbrev pub firm_tally : Firm → Tally Stop (ℕ × Bound)
+firm_tally (Stands f) = footing_tally f
+firm_tally (Refused r) = refusal_tally r
 
-abbrev pub refusedWith : ℕ → Firm
-refusedWith number = Refused (refusalOf number origin 0 0)
+abbrev pub refused_with : ℕ → Firm
+refused_with number = Refused (refusal_of number origin 0 0)
 
-abbrev pub filledAs : Look → Bool
-filledAs Filled = true
-filledAs Empty = false
-filledAs Outside = false
+abbrev pub filled_as : Look → Bool
+filled_as Filled = true
+filled_as Empty = false
+filled_as Outside = false
 
 -- ---- the start p under the apex q
 -- what the question x gives once the start is cleared
@@ -54,33 +54,33 @@ ClearAt solid p (IsRefused r) = Unit {0}
 
 module _ (solid : Solid) (bytes : List ℕ) where
   -- whatever the signs s and the powers are
-  abbrev pub probeAt : Vector → Vector → List ℕ → Probe
-  probeAt q s ls = record { look = look solid bytes; apex = q; signs = s; powers = ls }
+  abbrev pub probe_at : Vector → Vector → List ℕ → Probe
+  probe_at q s ls = record { look = look solid bytes; apex = q; signs = s; powers = ls }
 
   pub record StartFaced (p q : Vector) (r : Cleared) : Type 0 where
-    pub is : (s : Vector) (ls : List ℕ) → FacingAsked (probeAt q s ls) p r
+    pub is : (s : Vector) (ls : List ℕ) → FacingAsked (probe_at q s ls) p r
 
   pub record StartCleared (p q : Vector) (r : Cleared) : Type 0 where
-    pub is : (s : Vector) (ls : List ℕ) (x : Asked Stop (ℕ × Bound)) → Gives 0 (placing (probeAt q s ls) p >> (facing (probeAt q s ls) p >> x)) (cleared x (clearedTally r))
+    pub is : (s : Vector) (ls : List ℕ) (x : Asked Stop (ℕ × Bound)) → Gives 0 (placing (probe_at q s ls) p >> (facing (probe_at q s ls) p >> x)) (cleared x (cleared_tally r))
     pub place : ClearAt solid p r
 
 -- ---- the footing
 pub record StoodOn (g : Ground) (bytes : List ℕ) (a : AcceptedPick) (reach looks : ℕ) (r : Footing) : Type 0 where
-  pub gives : Gives looks (firmFrom (look g.solid bytes) g.start 0 (powers reach) (vectors_of g allWays) >>= λ F. answered (F, bound_at F a) []) (footingTally r)
+  pub gives : Gives looks (firm_from (look g.solid bytes) g.start 0 (powers reach) (vectors_of g all_ways) >>= λ F. answered (F, bound_at F a) []) (footing_tally r)
 
 module _ (solid : Solid) (bytes : List ℕ) where
   -- of an accepted answer, with the signs s: the last power from the start p, and the bound at it
   abbrev pub standing : AcceptedPick → Vector → Vector → ℕ → Asked Stop (ℕ × Bound)
-  standing a s p reach = firmFrom (look solid bytes) p 0 (powers reach) (footing s a) >>= λ F. answered (F, bound_at F a) []
+  standing a s p reach = firm_from (look solid bytes) p 0 (powers reach) (footing s a) >>= λ F. answered (F, bound_at F a) []
 
   pub record FirmFrom (a : AcceptedPick) (s p : Vector) (reach : ℕ) (r : Firm) : Type 0 where
-    pub gives : Gives 0 (placing (probeAt solid bytes a.apex s (powers reach)) p >> (facing (probeAt solid bytes a.apex s (powers reach)) p >> standing a s p reach)) (firmTally r)
+    pub gives : Gives 0 (placing (probe_at solid bytes a.apex s (powers reach)) p >> (facing (probe_at solid bytes a.apex s (powers reach)) p >> standing a s p reach)) (firm_tally r)
 
   pub record FirmUnder (a : AcceptedPick) (frame reach : ℕ) (r : Firm) : Type 0 where
-    pub gives : Gives 0 (firmUnder (look solid bytes) (pos frame) (pos reach) a (startUnder a.apex (signs frame))) (firmTally r)
+    pub gives : Gives 0 (firm_under (look solid bytes) (pos frame) (pos reach) a (start_under a.apex (signs frame))) (firm_tally r)
 
   pub record FirmOf (pick : Pick) (frame reach : ℕ) (r : Firm) : Type 0 where
-    pub gives : Gives 0 (firmOn (look solid bytes) (pos frame) (pos reach) pick) (firmTally r)
+    pub gives : Gives 0 (firm_on (look solid bytes) (pos frame) (pos reach) pick) (firm_tally r)
 
   pub record FirmOn (pick : Pick) (frame reach : ℤ) (r : Firm) : Type 0 where
-    pub gives : Gives 0 (firm (permitted solid bytes) (look solid bytes) frame reach pick) (firmTally r)
+    pub gives : Gives 0 (firm (permitted solid bytes) (look solid bytes) frame reach pick) (firm_tally r)

@@ -5,7 +5,7 @@ use Rattle.rules.specs.declared.Wedge.{Wedge}
 use Rattle.rules.specs.declared.Stack.{Stack}
 use Rattle.rules.specs.declared.Pick.{Pick}
 use Rattle.rules.specs.declared.Firm.{Firm}
-use Rattle.rules.specs.Firm.{firm, firmAnswer, firmOf, WedgeFirmPromise, StackFirmPromise}
+use Rattle.rules.specs.Firm.{firm, firm_answer, firm_of, WedgeFirmPromise, StackFirmPromise}
 use Rattle.stack.specs.Alike.{Alike, alike}
 
 module _ {answer : Pick} {frame reach : ℤ} {r t : Firm} where
@@ -17,5 +17,5 @@ module _ {answer : Pick} {frame reach : ℤ} {r t : Firm} where
 
 -- lent bytes that agree on the voxels of the box
 pub stack-footings-alike : {k : Stack} {a b : List ℕ} → Alike k a b → {answer : Pick} {frame reach : ℤ} {r t : Firm} → StackFirmPromise k a answer frame reach r → StackFirmPromise k b answer frame reach t → r ≡ t
-unfolding firmOf
-stack-footings-alike h {answer} {frame} {reach} u v = u.is ∙ alike h (λ ok look. firmAnswer (firm ok look frame reach answer)) ∙ sym v.is
+unfolding firm_of
+stack-footings-alike h {answer} {frame} {reach} u v = u.is ∙ alike h (λ ok look. firm_answer (firm ok look frame reach answer)) ∙ sym v.is

@@ -3,12 +3,12 @@ ghost use Rattle.std.specs.Prelude.{◌≡◌, true, ◌+◌, ◌≤◌, ◌-ℤ
 ghost use Rattle.integers.specs.Sizes.{Within};
 ghost use Rattle.rules.specs.Solids.{look};
 ghost use Rattle.rules.specs.Lean.{measurable};
-ghost use Rattle.rules.specs.Firm.{held, startUnder, WedgeFirmPromise, StackFirmPromise};
+ghost use Rattle.rules.specs.Firm.{held, start_under, WedgeFirmPromise, StackFirmPromise};
 ghost use Rattle.laws.specs.Bounds.{Bounded};
 ghost use Rattle.solid.specs.Asks.{PermittedSolid, InBoxOf};
-ghost use Rattle.solid.specs.Grid.{gridOf};
+ghost use Rattle.solid.specs.Grid.{grid_of};
 ghost use Rattle.footing.specs.Footing.{Grounded};
-ghost use Rattle.firm.specs.Firm.{refusedWith, filledAs, StartFaced, StartCleared, StoodOn, FirmFrom, FirmUnder, FirmOf, FirmOn};
+ghost use Rattle.firm.specs.Firm.{refused_with, filled_as, StartFaced, StartCleared, StoodOn, FirmFrom, FirmUnder, FirmOf, FirmOn};
 
 use facing::Cleared;
 use footing::Ground;
@@ -32,7 +32,7 @@ fn hold(x: i32, sign: i32) -> i32
 // p = q - s. Any apex may be handed.
 fn start_under(q: Vector, s: Vector) -> Vector
     requires { Bounded 1 s }
-    ensures { result ≡ startUnder q s }
+    ensures { result ≡ start_under q s }
 {
     let x = hold(q.x, s.x);
     let y = hold(q.y, s.y);
@@ -44,14 +44,14 @@ fn start_under(q: Vector, s: Vector) -> Vector
 
 // At no place, before any look.
 fn refuse(number: u32) -> Firm
-    ensures { result ≡ refusedWith number }
+    ensures { result ≡ refused_with number }
 {
     Firm::Refused(refusals::refusal(number, Vector { x: 0, y: 0, z: 0 }, 0, 0))
 }
 
 fn is_filled(solid: Solid, grid: Grid, bytes: &[u8], v: Vector) -> bool
-    requires { PermittedSolid solid bytes.now × (grid ≡ gridOf solid) }
-    ensures { result ≡ filledAs (look solid bytes.now v) }
+    requires { PermittedSolid solid bytes.now × (grid ≡ grid_of solid) }
+    ensures { result ≡ filled_as (look solid bytes.now v) }
 {
     let seen = solid::look_at(solid, grid, bytes, v);
     match seen {
@@ -63,7 +63,7 @@ fn is_filled(solid: Solid, grid: Grid, bytes: &[u8], v: Vector) -> bool
 
 // Refusal 5 after a look at p, 6 after one more at q.
 fn face(solid: Solid, grid: Grid, bytes: &[u8], p: Vector, q: Vector) -> Cleared
-    requires { PermittedSolid solid bytes.now × (grid ≡ gridOf solid) × InBoxOf solid p × InBoxOf solid q }
+    requires { PermittedSolid solid bytes.now × (grid ≡ grid_of solid) × InBoxOf solid p × InBoxOf solid q }
     ensures { StartFaced solid bytes.now p q result }
 {
     if is_filled(solid, grid, bytes, p) {
@@ -79,7 +79,7 @@ fn face(solid: Solid, grid: Grid, bytes: &[u8], p: Vector, q: Vector) -> Cleared
 
 // Refusal 4 at p, else at q, before they are looked at.
 fn clear(solid: Solid, grid: Grid, bytes: &[u8], p: Vector, q: Vector) -> Cleared
-    requires { PermittedSolid solid bytes.now × (grid ≡ gridOf solid) }
+    requires { PermittedSolid solid bytes.now × (grid ≡ grid_of solid) }
     ensures { StartCleared solid bytes.now p q result }
 {
     if solid::is_inside(grid, p) {
@@ -119,7 +119,7 @@ fn firm_from(
     p: Vector,
     reach: u32,
 ) -> Firm
-    requires { PermittedSolid solid bytes.now × (grid ≡ gridOf solid) × (measurable a ≡ true) × Bounded 1 s × (reach ≤ 256) }
+    requires { PermittedSolid solid bytes.now × (grid ≡ grid_of solid) × (measurable a ≡ true) × Bounded 1 s × (reach ≤ 256) }
     ensures { FirmFrom solid bytes.now a s p reach result }
 {
     let q = a.apex;

@@ -32,8 +32,8 @@ use Rattle.flat.specs.declared.FlatWriting.{FlatWriting}
 use Rattle.flat.specs.declared.FlatDisplay.{FlatDisplay}
 
 -- number 0: accepted, place 0 0 0. Refused: normal, m0, m1, m2, apex all zero
-abbrev pub flatPick : Pick → FlatPick
-flatPick (Accepted a) = record {
+abbrev pub flat_pick : Pick → FlatPick
+flat_pick (Accepted a) = record {
   number = 0;
   place = origin;
   steps = a.steps;
@@ -44,7 +44,7 @@ flatPick (Accepted a) = record {
   m2 = a.triangle.m2;
   apex = a.apex;
 }
-flatPick (Refused r) = record {
+flat_pick (Refused r) = record {
   number = r.number;
   place = r.place;
   steps = r.steps;
@@ -57,15 +57,15 @@ flatPick (Refused r) = record {
 }
 
 -- as a host hands it back: by its number
-unfoldable pub handedPick : FlatPick → Pick
-handedPick r = elim (eqb r.number 0) [
+unfoldable pub handed_pick : FlatPick → Pick
+handed_pick r = elim (eqb r.number 0) [
   | true ↦ Accepted (record { normal = r.normal; triangle = triangle r.m0 r.m1 r.m2; apex = r.apex; steps = r.steps; looks = r.looks })
   | false ↦ Refused (record { number = r.number; place = r.place; steps = r.steps; looks = r.looks })
 ]
 
 -- guess is 1 when number is 0, else 0; otherwise as a pick's
-abbrev pub withGuess : ℕ → FlatPick → FlatTouch
-withGuess guess r = record {
+abbrev pub with_guess : ℕ → FlatPick → FlatTouch
+with_guess guess r = record {
   number = r.number;
   guess = guess;
   place = r.place;
@@ -78,9 +78,9 @@ withGuess guess r = record {
   apex = r.apex;
 }
 
-abbrev pub flatTouch : Touch → FlatTouch
-flatTouch (Guess a) = withGuess 1 (flatPick (Accepted a))
-flatTouch (TouchRefused r) = withGuess 0 (flatPick (Refused r))
+abbrev pub flat_touch : Touch → FlatTouch
+flat_touch (Guess a) = with_guess 1 (flat_pick (Accepted a))
+flat_touch (TouchRefused r) = with_guess 0 (flat_pick (Refused r))
 
 -- ---- a ready start. Bit 0, 1, 2 of level: axis 0, 1, 2 is level
 abbrev pub bit : Bool → ℕ
@@ -90,51 +90,51 @@ bit false = 0
 abbrev pub mask_of : Levels → ℕ
 mask_of v = bit v.x + 2 * bit v.y + 4 * bit v.z
 
-abbrev pub flatReady : ReadyStart → FlatReady
-flatReady d = record { start = d.start; apex = d.apex; level = mask_of d.level; looks = d.looks }
+abbrev pub flat_ready : ReadyStart → FlatReady
+flat_ready d = record { start = d.start; apex = d.apex; level = mask_of d.level; looks = d.looks }
 
 -- as a host hands it back: higher bits are not looked at
-abbrev pub levelsOf : ℕ → Levels
-levelsOf mask = levels (eqb (mask % 2) 1) (eqb (mask / 2 % 2) 1) (eqb (mask / 4 % 2) 1)
+abbrev pub levels_of : ℕ → Levels
+levels_of mask = levels (eqb (mask % 2) 1) (eqb (mask / 2 % 2) 1) (eqb (mask / 4 % 2) 1)
 
-abbrev pub readyOf : FlatReady → ReadyStart
-readyOf r = record { start = r.start; apex = r.apex; level = levelsOf r.level; looks = r.looks }
+abbrev pub ready_of : FlatReady → ReadyStart
+ready_of r = record { start = r.start; apex = r.apex; level = levels_of r.level; looks = r.looks }
 
 -- number 0: ready, place 0 0 0, looks the ready start's. Refused: the ready start all zero
-abbrev pub noReady : FlatReady
-noReady = record { start = origin; apex = origin; level = 0; looks = 0 }
+abbrev pub no_ready : FlatReady
+no_ready = record { start = origin; apex = origin; level = 0; looks = 0 }
 
-abbrev pub flatCheck : Check → FlatCheck
-flatCheck (Ready d) = record { number = 0; place = origin; looks = d.looks; ready = flatReady d }
-flatCheck (CheckRefused r) = record { number = r.number; place = r.place; looks = r.looks; ready = noReady }
+abbrev pub flat_check : Check → FlatCheck
+flat_check (Ready d) = record { number = 0; place = origin; looks = d.looks; ready = flat_ready d }
+flat_check (CheckRefused r) = record { number = r.number; place = r.place; looks = r.looks; ready = no_ready }
 
 -- ---- how far an accepted normal may lean, and how firm its footing is
 -- number 0: known. Refused: part and whole 0
-abbrev pub flatLean : Lean → FlatLean
-flatLean (Known b) = record { number = 0; part = b.part; whole = b.whole }
-flatLean (Unknown n) = record { number = n; part = 0; whole = 0 }
+abbrev pub flat_lean : Lean → FlatLean
+flat_lean (Known b) = record { number = 0; part = b.part; whole = b.whole }
+flat_lean (Unknown n) = record { number = n; part = 0; whole = 0 }
 
 -- number 0: place 0 0 0. Refused: number, place and looks, all else 0
-abbrev pub flatFirm : Firm → FlatFirm
-flatFirm (Stands f) = record { number = 0; place = origin; power = f.power; looks = f.looks; part = f.bound.part; whole = f.bound.whole }
-flatFirm (FirmRefused r) = record { number = r.number; place = r.place; power = 0; looks = r.looks; part = 0; whole = 0 }
+abbrev pub flat_firm : Firm → FlatFirm
+flat_firm (Stands f) = record { number = 0; place = origin; power = f.power; looks = f.looks; part = f.bound.part; whole = f.bound.whole }
+flat_firm (FirmRefused r) = record { number = r.number; place = r.place; power = 0; looks = r.looks; part = 0; whole = 0 }
 
 -- ---- the display normal, and P4 stacks
 -- +0
-abbrev pub plusZero : Float
-plusZero = fin false 0 (pos 0)
+abbrev pub plus_zero : Float
+plus_zero = fin false 0 (pos 0)
 
 -- number 0: lit. Refused: number 30, floats +0
-abbrev pub flatDisplay : Display → FlatDisplay
-flatDisplay (Lit l) = record { number = 0; x = l.x; y = l.y; z = l.z }
-flatDisplay (Unlit n) = record { number = n; x = plusZero; y = plusZero; z = plusZero }
+abbrev pub flat_display : Display → FlatDisplay
+flat_display (Lit l) = record { number = 0; x = l.x; y = l.y; z = l.z }
+flat_display (Unlit n) = record { number = n; x = plus_zero; y = plus_zero; z = plus_zero }
 
 -- number 0: sizes set, value 0. Refused: value is the number returned, sizes 0
-abbrev pub flatReading : Reading → FlatReading
-flatReading (Read k) = record { number = 0; value = 0; width = nat_abs k.width; height = nat_abs k.height; depth = nat_abs k.depth }
-flatReading (Unread number value) = record { number = number; value = value; width = 0; height = 0; depth = 0 }
+abbrev pub flat_reading : Reading → FlatReading
+flat_reading (Read k) = record { number = 0; value = 0; width = nat_abs k.width; height = nat_abs k.height; depth = nat_abs k.depth }
+flat_reading (Unread number value) = record { number = number; value = value; width = 0; height = 0; depth = 0 }
 
 -- number 0: value is the bytes written; 27: bytes needed; 3: 0
-abbrev pub flatWriting : Writing → FlatWriting
-flatWriting (Written bytes) = record { number = 0; value = bytes }
-flatWriting (Unwritten number value) = record { number = number; value = value }
+abbrev pub flat_writing : Writing → FlatWriting
+flat_writing (Written bytes) = record { number = 0; value = bytes }
+flat_writing (Unwritten number value) = record { number = number; value = value }

@@ -1,6 +1,6 @@
 // The answers of the core as plain numbers for C, each flattened by a definition of `specs/Flat.antt`, and a ready start and a pick read back.
 ghost use Rattle.std.specs.Prelude.{◌≡◌};
-ghost use Rattle.flat.specs.Flat.{flatPick, handedPick, withGuess, flatTouch, mask_of, levelsOf, flatReady, readyOf, flatCheck, flatLean, flatFirm, flatDisplay, flatReading, flatWriting};
+ghost use Rattle.flat.specs.Flat.{flat_pick, handed_pick, with_guess, flat_touch, mask_of, levels_of, flat_ready, ready_of, flat_check, flat_lean, flat_firm, flat_display, flat_reading, flat_writing};
 
 use rules::{
     Accepted, Check, Display, Firm, Lean, Levels, Pick, Reading, ReadyStart, Refused, Touch,
@@ -104,7 +104,7 @@ pub struct FlatDisplay {
 // ---- answers as plain numbers
 
 pub fn flatten_pick(answer: Pick) -> FlatPick
-    ensures { result ≡ flatPick answer }
+    ensures { result ≡ flat_pick answer }
 {
     let none = Vector { x: 0, y: 0, z: 0 };
     match answer {
@@ -145,7 +145,7 @@ pub fn flatten_pick(answer: Pick) -> FlatPick
 }
 
 fn with_guess(guess: u32, answer: FlatPick) -> FlatTouch
-    ensures { result ≡ withGuess guess answer }
+    ensures { result ≡ with_guess guess answer }
 {
     let place = answer.place;
     let normal = answer.normal;
@@ -168,7 +168,7 @@ fn with_guess(guess: u32, answer: FlatPick) -> FlatTouch
 }
 
 pub fn flatten_touch(answer: Touch) -> FlatTouch
-    ensures { result ≡ flatTouch answer }
+    ensures { result ≡ flat_touch answer }
 {
     match answer {
         Touch::Guess(a) => with_guess(1, flatten_pick(Pick::Accepted(a))),
@@ -187,7 +187,7 @@ fn mask_of(level: Levels) -> u32
 }
 
 fn flatten_ready(d: ReadyStart) -> FlatReady
-    ensures { result ≡ flatReady d }
+    ensures { result ≡ flat_ready d }
 {
     let p = d.start;
     let q = d.apex;
@@ -201,7 +201,7 @@ fn flatten_ready(d: ReadyStart) -> FlatReady
 }
 
 pub fn flatten_check(answer: Check) -> FlatCheck
-    ensures { result ≡ flatCheck answer }
+    ensures { result ≡ flat_check answer }
 {
     let none = Vector { x: 0, y: 0, z: 0 };
     match answer {
@@ -233,7 +233,7 @@ pub fn flatten_check(answer: Check) -> FlatCheck
 }
 
 pub fn flatten_lean(answer: Lean) -> FlatLean
-    ensures { result ≡ flatLean answer }
+    ensures { result ≡ flat_lean answer }
 {
     match answer {
         Lean::Known(b) => FlatLean {
@@ -250,7 +250,7 @@ pub fn flatten_lean(answer: Lean) -> FlatLean
 }
 
 pub fn flatten_firm(answer: Firm) -> FlatFirm
-    ensures { result ≡ flatFirm answer }
+    ensures { result ≡ flat_firm answer }
 {
     match answer {
         Firm::Stands(f) => {
@@ -280,7 +280,7 @@ pub fn flatten_firm(answer: Firm) -> FlatFirm
 }
 
 pub fn flatten_reading(answer: Reading) -> FlatReading
-    ensures { result ≡ flatReading answer }
+    ensures { result ≡ flat_reading answer }
 {
     match answer {
         Reading::Read(k) => FlatReading {
@@ -301,7 +301,7 @@ pub fn flatten_reading(answer: Reading) -> FlatReading
 }
 
 pub fn flatten_writing(answer: Writing) -> FlatWriting
-    ensures { result ≡ flatWriting answer }
+    ensures { result ≡ flat_writing answer }
 {
     match answer {
         Writing::Written(n) => FlatWriting {
@@ -316,7 +316,7 @@ pub fn flatten_writing(answer: Writing) -> FlatWriting
 }
 
 pub fn flatten_display(answer: Display) -> FlatDisplay
-    ensures { result ≡ flatDisplay answer }
+    ensures { result ≡ flat_display answer }
 {
     match answer {
         Display::Lit(l) => FlatDisplay {
@@ -338,7 +338,7 @@ pub fn flatten_display(answer: Display) -> FlatDisplay
 
 // Higher bits are not looked at.
 fn levels_of(mask: u32) -> Levels
-    ensures { result ≡ levelsOf mask }
+    ensures { result ≡ levels_of mask }
 {
     let x = mask % 2 == 1;
     let y = mask / 2 % 2 == 1;
@@ -347,7 +347,7 @@ fn levels_of(mask: u32) -> Levels
 }
 
 pub fn ready_of(ready: FlatReady) -> ReadyStart
-    ensures { result ≡ readyOf ready }
+    ensures { result ≡ ready_of ready }
 {
     let p = ready.start;
     let q = ready.apex;
@@ -361,7 +361,7 @@ pub fn ready_of(ready: FlatReady) -> ReadyStart
 }
 
 pub fn handed_pick(pick: FlatPick) -> Pick
-    ensures { result ≡ handedPick pick }
+    ensures { result ≡ handed_pick pick }
 {
     if pick.number == 0 {
         let normal = pick.normal;

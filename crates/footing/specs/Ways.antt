@@ -1,7 +1,7 @@
 -- The ways by their numbers.
 use Rattle.std.specs.Prelude.{ℕ, get_or}
 use Rattle.rules.specs.Walk.{axis2}
-use Rattle.rules.specs.Firm.{Way, against, allWays}
+use Rattle.rules.specs.Firm.{Way, against, all_ways}
 
-abbrev pub wayAt : ℕ → Way
-wayAt i = get_or allWays i (against axis2)
+abbrev pub way_at : ℕ → Way
+way_at i = get_or all_ways i (against axis2)

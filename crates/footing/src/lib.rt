@@ -1,12 +1,12 @@
 // How far out the ways of an accepted answer stay filled from its start.
 ghost use Rattle.std.specs.Prelude.{◌≡◌, ◌+◌, ◌≤◌, ◌<◌};
-ghost use Rattle.rules.specs.Walk.{vectorOf, way, level};
+ghost use Rattle.rules.specs.Walk.{vector_of, way, level};
 ghost use Rattle.rules.specs.Firm.{belongs, way_of};
 ghost use Rattle.laws.specs.Triples.{All};
 ghost use Rattle.laws.specs.Bounds.{Bounded};
-ghost use Rattle.axis.specs.Axes.{axisAt};
+ghost use Rattle.axis.specs.Axes.{axis_at};
 ghost use Rattle.choice.specs.Best.{pair_at};
-ghost use Rattle.footing.specs.Ways.{wayAt};
+ghost use Rattle.footing.specs.Ways.{way_at};
 ghost use Rattle.footing.specs.Footing.{Grounded, Looked, AllLooked, FirmTo};
 
 use rules::{Levels, Look, Solid, Triangle, Vector};
@@ -41,7 +41,7 @@ pub struct Footed {
 
 fn vector_of(m: Triangle, axis: u32) -> Vector
     requires { axis < 3 }
-    ensures { result ≡ vectorOf m (axisAt axis) }
+    ensures { result ≡ vector_of m (axis_at axis) }
 {
     if axis == 0 {
         return m.m0;
@@ -51,7 +51,7 @@ fn vector_of(m: Triangle, axis: u32) -> Vector
 
 fn is_level(levels: Levels, axis: u32) -> bool
     requires { axis < 3 }
-    ensures { result ≡ level levels (axisAt axis) }
+    ensures { result ≡ level levels (axis_at axis) }
 {
     if axis == 0 {
         return levels.x;
@@ -61,7 +61,7 @@ fn is_level(levels: Levels, axis: u32) -> bool
 
 fn belongs(level: Levels, way: u32) -> bool
     requires { way < 12 }
-    ensures { result ≡ belongs level (wayAt way) }
+    ensures { result ≡ belongs level (way_at way) }
 {
     if way < 6 {
         let k = is_level(level, round::first_of(way));
@@ -83,7 +83,7 @@ fn pair_way(m: Triangle, pair: u32) -> Vector
 
 fn way_of(s: Vector, m: Triangle, way: u32) -> Vector
     requires { Bounded 1 s × All (Bounded 2046) m × (way < 12) }
-    ensures { result ≡ way_of s m (wayAt way) }
+    ensures { result ≡ way_of s m (way_at way) }
 {
     if way < 6 {
         return pair_way(m, way);

@@ -6,20 +6,20 @@ use Rattle.rules.specs.Vectors.{◌⊕◌, dot}
 use Rattle.rules.specs.Solids.{permitted, look}
 use Rattle.rules.specs.Asked.{Asked as Question}
 use Rattle.rules.specs.Walk.{Stop, signs, Probe}
-use Rattle.rules.specs.Pick.{probeFrom, placing, judging}
+use Rattle.rules.specs.Pick.{probe_from, placing, judging}
 use Rattle.laws.specs.Tally.{Tally, yes, Gives}
-use Rattle.solid.specs.Grid.{ranksOf, gridOf}
+use Rattle.solid.specs.Grid.{ranks_of, grid_of}
 use Rattle.falls.specs.declared.Scene.{Scene}
-use Rattle.falls.specs.Scene.{probeOf, Ready}
-use Rattle.refusals.specs.Refusals.{refusalTally}
+use Rattle.falls.specs.Scene.{probe_of, Ready}
+use Rattle.refusals.specs.Refusals.{refusal_tally}
 use Rattle.inputs.specs.declared.Begin.{Begin}
 use Rattle.inputs.specs.declared.Begin.TheVariants.{Asked, Handed}
 use Rattle.inputs.specs.declared.Fit.{Fit}
 use Rattle.inputs.specs.declared.Fit.TheVariants.{Scene as FitScene, Refused as FitRefused}
 
-abbrev pub fitTally : Fit → Tally Stop (Unit {0})
-fitTally (FitScene v) = yes tt 0
-fitTally (FitRefused r) = refusalTally r
+abbrev pub fit_tally : Fit → Tally Stop (Unit {0})
+fit_tally (FitScene v) = yes tt 0
+fit_tally (FitRefused r) = refusal_tally r
 
 -- the start p
 abbrev pub start_of : Begin → Vector
@@ -27,9 +27,9 @@ start_of (Asked quick p) = p
 start_of (Handed d) = d.start
 
 -- the apex, with the signs s: q = p + s, or the one that was handed
-abbrev pub apexOf : Begin → Vector → Vector
-apexOf (Asked quick p) s = p ⊕ s
-apexOf (Handed d) s = d.apex
+abbrev pub apex_of : Begin → Vector → Vector
+apex_of (Asked quick p) s = p ⊕ s
+apex_of (Handed d) s = d.apex
 
 -- of a quick touch a direction falls only if power 1 is filled
 abbrev pub span_of : Begin → ℕ → ℕ
@@ -39,7 +39,7 @@ span_of (Handed d) R = R
 
 -- the scene of these inputs
 abbrev pub scene_of : Begin → Solid → ℕ → ℕ → Scene
-scene_of begin solid frame R = record { solid = solid; grid = gridOf solid; apex = apexOf begin (signs frame); here = dot (ranksOf solid) (apexOf begin (signs frame)); signs = signs frame; span = span_of begin R; reach = R }
+scene_of begin solid frame R = record { solid = solid; grid = grid_of solid; apex = apex_of begin (signs frame); here = dot (ranks_of solid) (apex_of begin (signs frame)); signs = signs frame; span = span_of begin R; reach = R }
 
 -- where none is refused it is that scene, and every question may be asked in it; no refusal has looks
 abbrev pub FitsTo : Begin → Solid → List ℕ → ℕ → ℕ → Fit → Type 0
@@ -47,16 +47,16 @@ FitsTo begin solid bytes frame R (FitScene v) = (v ≡ scene_of begin solid fram
 FitsTo begin solid bytes frame R (FitRefused r) = r.looks ≡ 0
 
 pub record PlacesJudged (begin : Begin) (solid : Solid) (bytes : List ℕ) (frame R : ℕ) (r : Fit) : Type 0 where
-  pub gives : Gives 0 (placing (probeOf (scene_of begin solid frame R) bytes) (start_of begin)) (fitTally r)
+  pub gives : Gives 0 (placing (probe_of (scene_of begin solid frame R) bytes) (start_of begin)) (fit_tally r)
   pub fits : FitsTo begin solid bytes frame R r
 
 -- what is judged, and its judgement
-abbrev pub probeJudged : Begin → Solid → List ℕ → ℤ → ℤ → Probe
-probeJudged begin solid bytes frame reach = probeFrom (look solid bytes) (apexOf begin (signs (nat_abs frame))) frame reach
+abbrev pub probe_judged : Begin → Solid → List ℕ → ℤ → ℤ → Probe
+probe_judged begin solid bytes frame reach = probe_from (look solid bytes) (apex_of begin (signs (nat_abs frame))) frame reach
 
-abbrev pub judgingOf : Begin → Solid → List ℕ → ℤ → ℤ → Question Stop (Unit {0})
-judgingOf begin solid bytes frame reach = judging (permitted solid bytes) (probeJudged begin solid bytes frame reach) (start_of begin) frame reach
+abbrev pub judging_of : Begin → Solid → List ℕ → ℤ → ℤ → Question Stop (Unit {0})
+judging_of begin solid bytes frame reach = judging (permitted solid bytes) (probe_judged begin solid bytes frame reach) (start_of begin) frame reach
 
 pub record InputsJudged (begin : Begin) (solid : Solid) (bytes : List ℕ) (frame reach : ℤ) (r : Fit) : Type 0 where
-  pub gives : Gives 0 (judgingOf begin solid bytes frame reach) (fitTally r)
+  pub gives : Gives 0 (judging_of begin solid bytes frame reach) (fit_tally r)
   pub fits : FitsTo begin solid bytes (nat_abs frame) (nat_abs reach) r

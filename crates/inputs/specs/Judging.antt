@@ -4,10 +4,10 @@ use Rattle.std.proofs.Common.{sym, ◌∙◌}
 use Rattle.rules.specs.declared.Vector.{Vector}
 use Rattle.rules.specs.declared.Solid.{Solid}
 use Rattle.rules.specs.Vectors.{origin}
-use Rattle.rules.specs.Solids.{between, box, inBox, look}
+use Rattle.rules.specs.Solids.{between, box, in_box, look}
 use Rattle.rules.specs.Asked.{Asked, ◌>>=◌, ◌>>◌}
 use Rattle.rules.specs.Walk.{Stop, stop, ensure, Probe}
-use Rattle.rules.specs.Pick.{isInside, placing}
+use Rattle.rules.specs.Pick.{is_inside, placing}
 use Rattle.laws.specs.Boxes.{look-inside}
 use Rattle.laws.specs.Tally.{Tally, yes, no, Gives, then-yes, then-no, ensured, not-ensured}
 
@@ -36,19 +36,19 @@ module _ (allowed : Bool) (frame reach : ℤ) {A : Type 0} (rest : Asked Stop A)
 
 -- ---- refusal 4
 module _ (c : Probe) (p : Vector) where
-  pub start-outside-box : isInside (c.look p) ≡ false → Gives 0 (placing c p) (no (stop 4 p 0) 0)
+  pub start-outside-box : is_inside (c.look p) ≡ false → Gives 0 (placing c p) (no (stop 4 p 0) 0)
   unfolding placing
   start-outside-box e = then-no _ (not-ensured e)
 
-  module _ (a : isInside (c.look p) ≡ true) where
-    pub apex-outside-box : isInside (c.look c.apex) ≡ false → Gives 0 (placing c p) (no (stop 4 c.apex 0) 0)
+  module _ (a : is_inside (c.look p) ≡ true) where
+    pub apex-outside-box : is_inside (c.look c.apex) ≡ false → Gives 0 (placing c p) (no (stop 4 c.apex 0) 0)
     unfolding placing
     apex-outside-box e = then-yes _ (ensured (stop 4 p 0) a) (not-ensured e)
 
-    pub both-inside : isInside (c.look c.apex) ≡ true → Gives 0 (placing c p) (yes tt 0)
+    pub both-inside : is_inside (c.look c.apex) ≡ true → Gives 0 (placing c p) (yes tt 0)
     unfolding placing
     both-inside b = then-yes _ (ensured (stop 4 p 0) a) (ensured (stop 4 c.apex 0) b)
 
 -- as the places are judged, by their box
-pub inside_is : (solid : Solid) (bytes : List ℕ) {a q : Vector} {b t : Bool} → q ≡ a → b ≡ inBox (box solid) q → b ≡ t → isInside (look solid bytes a) ≡ t
+pub inside_is : (solid : Solid) (bytes : List ℕ) {a q : Vector} {b t : Bool} → q ≡ a → b ≡ in_box (box solid) q → b ≡ t → is_inside (look solid bytes a) ≡ t
 inside_is solid bytes {q = q} e h g = rw (← e) (look-inside solid bytes q ∙ sym h ∙ g)

@@ -4,19 +4,19 @@ use Rattle.std.proofs.Math.Path.{refl, ap}
 use Rattle.std.proofs.Common.{sym}
 use Rattle.rules.specs.declared.Solid.{Solid}
 use Rattle.rules.specs.Walk.{Stop}
-use Rattle.rules.specs.Pick.{refusedAnswer}
+use Rattle.rules.specs.Pick.{refused_answer}
 use Rattle.laws.specs.Tally.{Tally, yes, no, gives-settled}
 use Rattle.inputs.specs.declared.Begin.{Begin}
 use Rattle.inputs.specs.declared.Fit.{Fit}
 use Rattle.inputs.specs.declared.Fit.TheVariants.{Scene as FitScene, Refused as FitRefused}
-use Rattle.inputs.specs.Inputs.{fitTally, scene_of, FitsTo, InputsJudged}
+use Rattle.inputs.specs.Inputs.{fit_tally, scene_of, FitsTo, InputsJudged}
 
 module _ (begin : Begin) (solid : Solid) (bytes : List ℕ) (frame R : ℕ) where
   made : Tally Stop (Unit {0}) → Fit
   made (yes t k) = FitScene (scene_of begin solid frame R)
-  made (no s k) = FitRefused (refusedAnswer s k)
+  made (no s k) = FitRefused (refused_answer s k)
 
-  made_again : (r : Fit) → FitsTo begin solid bytes frame R r → made (fitTally r) ≡ r
+  made_again : (r : Fit) → FitsTo begin solid bytes frame R r → made (fit_tally r) ≡ r
   unfolding made
   made_again (FitScene v) h = ap FitScene (sym h.0)
   made_again (FitRefused r) h = refl

@@ -3,7 +3,7 @@ ghost use Rattle.std.specs.Prelude.{◌≡◌, ◌≤◌};
 ghost use Rattle.rules.specs.Walk.{sign, signs};
 ghost use Rattle.laws.specs.Bounds.{Bounded};
 ghost use Rattle.solid.specs.Asks.{PermittedSolid};
-ghost use Rattle.inputs.specs.Inputs.{start_of, apexOf, span_of, PlacesJudged, InputsJudged};
+ghost use Rattle.inputs.specs.Inputs.{start_of, apex_of, span_of, PlacesJudged, InputsJudged};
 
 use falls::Scene;
 use rules::{ReadyStart, Refused, Solid, Vector};
@@ -53,7 +53,7 @@ fn start_of(begin: Begin) -> Vector
 // q = p + s, or the apex that was handed.
 fn apex_of(begin: Begin, s: Vector) -> Vector
     requires { Bounded 1000000000 (start_of begin) × Bounded 1000000000 s }
-    ensures { result ≡ apexOf begin s }
+    ensures { result ≡ apex_of begin s }
 {
     match begin {
         Begin::Asked(_, p) => space::add(p, s),

@@ -7,9 +7,9 @@ use Rattle.rules.specs.Walk.{Stop, ensure, asked}
 use Rattle.laws.specs.Tests.{In}
 
 -- the voxels that a question looked at, in order
-abbrev pub voxelsOf : {E A : Type 0} → Asked E A → List Vector
-voxelsOf (answered a t) = t
-voxelsOf (refused r t) = t
+abbrev pub voxels_of : {E A : Type 0} → Asked E A → List Vector
+voxels_of (answered a t) = t
+voxels_of (refused r t) = t
 
 pub record Among (xs ys : List Vector) : Type 0 where
   pub each : (p : Vector) → In p xs → In p ys
@@ -33,8 +33,8 @@ pub record Both {E A B : Type 0} (x : Asked E A) (k : A → Asked E B) (b : B) (
   pub behind : List Vector
   pub first : x ≡ answered answer front
   pub second : k answer ≡ answered b behind
-  pub firstAmong : Among front t
-  pub secondAmong : Among behind t
+  pub first_among : Among front t
+  pub second_among : Among behind t
 
 pub both-answered : {E A B : Type 0} {b : B} {t : List Vector} (x : Asked E A) (k : A → Asked E B) → (x >>= k) ≡ answered b t → Both x k b t
 unfolding ◌>>=◌ after
@@ -50,8 +50,8 @@ both-answered {E} {A} {B} {b} {t} (answered a s) k e = go (k a) refl e
           behind = u;
           first = refl;
           second = f ∙ (λ i. answered (c-is i) u);
-          firstAmong = rw (← t-is) (record { each = in-front s u });
-          secondAmong = rw (← t-is) (record { each = in-behind s u });
+          first_among = rw (← t-is) (record { each = in-front s u });
+          second_among = rw (← t-is) (record { each = in-behind s u });
         }
     go (refused r u) f e = absurd (let z : ◌≡◌ {A = ℕ} 0 1 = cc in omega arith)
 both-answered (refused r s) k e = absurd (let z : ◌≡◌ {A = ℕ} 0 1 = cc in omega arith)

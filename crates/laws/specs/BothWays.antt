@@ -13,7 +13,7 @@ use Rattle.rules.specs.declared.Pair.{Pair}
 use Rattle.rules.specs.declared.Pair.TheVariants.{P01, P02, P10, P12, P20, P21}
 use Rattle.rules.specs.Vectors.{◌⊕◌, ◌⊖◌, minus, lay}
 use Rattle.rules.specs.Asked.{Asked, answered, ◌>>=◌, ◌>>◌}
-use Rattle.rules.specs.Walk.{Stop, stop, ensure, asked, Axis, unit, units, pairs, from, to, vectorOf, first, second, way, level, only, takesPart, Probe, Found, laid, falls, isLevel, rounds, found}
+use Rattle.rules.specs.Walk.{Stop, stop, ensure, asked, Axis, unit, units, pairs, from, to, vector_of, first, second, way, level, only, takes_part, Probe, Found, laid, falls, is_level, rounds, found}
 use Rattle.laws.specs.Tests.{is_true}
 use Rattle.laws.specs.Only.{taking-in}
 use Rattle.laws.specs.Parts.{difference-turned}
@@ -43,12 +43,12 @@ turned-to P12 = refl
 turned-to P20 = refl
 turned-to P21 = refl
 
-pub turned-takes : (v : Levels) (x : Pair) → T (takesPart v x) → T (takesPart v (turned x))
-unfolding takesPart
+pub turned-takes : (v : Levels) (x : Pair) → T (takes_part v x) → T (takes_part v (turned x))
+unfolding takes_part
 turned-takes v x t = rw (turned-from x, turned-to x) (yes_and (not (level v (to x))) (not (level v (from x))) (to-remains v x t) (from-remains v x t))
 
 pub turned-way : (m : Triangle) (x : Pair) → way m (turned x) ≡ minus (way m x)
-turned-way m x = ap₂ (λ (k l : Axis). vectorOf m k ⊖ vectorOf m l) (turned-to x) (turned-from x) ∙ difference-turned (first m x) (second m x)
+turned-way m x = ap₂ (λ (k l : Axis). vector_of m k ⊖ vector_of m l) (turned-to x) (turned-from x) ∙ difference-turned (first m x) (second m x)
 
 laid-way : (s : Vector) (m : Triangle) (x : Pair) → way (laid s m) x ≡ lay s (way m x)
 laid-way s m x = ap₂ ◌⊖◌ (laid_of s m (to x)) (laid_of s m (from x)) ∙ sym (lay-difference s (second m x) (first m x))
@@ -62,8 +62,8 @@ module _ (c : Probe) where
     pub there : Stood c t u
     pub back : Stood c t (minus u)
 
-  level-stood : (e : Vector) {t : List Vector} → isLevel c e ≡ answered true t → BothWays t (lay s e)
-  unfolding isLevel
+  level-stood : (e : Vector) {t : List Vector} → is_level c e ≡ answered true t → BothWays t (lay s e)
+  unfolding is_level
   level-stood e {t} h = go a.answer (asked-answered 0 _ a.first) a.second
     where
       opposite : Asked Stop Bool
@@ -81,8 +81,8 @@ module _ (c : Probe) where
       go false h k =
           let b = both-answered (asked 0 (falls c (lay s e))) _ k in
           record {
-            there = stood-among c _ a.secondAmong (stood-among c _ b.firstAmong (upward b.answer (asked-answered 0 _ b.first) (ensured-answered _ _ _ b.second).0));
-            back = rw (← lay-minus s e) (stood-among c _ a.firstAmong (falls-stood c (lay s (minus e)) h));
+            there = stood-among c _ a.second_among (stood-among c _ b.first_among (upward b.answer (asked-answered 0 _ b.first) (ensured-answered _ _ _ b.second).0));
+            back = rw (← lay-minus s e) (stood-among c _ a.first_among (falls-stood c (lay s (minus e)) h));
           }
 
   both-among : {t w : List Vector} {u : Vector} → Among t w → BothWays t u → BothWays w u
@@ -93,15 +93,15 @@ module _ (c : Probe) where
     abbrev m : Triangle
     m = h.end.0
 
-    side-stood : (x : Pair) → T (takesPart v x) → Stood c t (lay s (way m x))
+    side-stood : (x : Pair) → T (takes_part v x) → Stood c t (lay s (way m x))
     unfolding rounds
-    side-stood x takes = stood-among c _ h.among (end-stood c (only (takesPart v) pairs) _ 0 units units-tame.unimodular h.walked x (taking-in v x takes))
+    side-stood x takes = stood-among c _ h.among (end-stood c (only (takes_part v) pairs) _ 0 units units-tame.unimodular h.walked x (taking-in v x takes))
 
     sides-way : (x : Pair) → way f.triangle x ≡ lay s (way m x)
     unfolding found
     sides-way x = ap (λ (f : Found). way f.triangle x) h.is ∙ laid-way s m x
 
-    pub sides-looked : (x : Pair) → T (takesPart v x) → BothWays t (way f.triangle x)
+    pub sides-looked : (x : Pair) → T (takes_part v x) → BothWays t (way f.triangle x)
     sides-looked x takes = rw (sides-way x) (record {
       there = side-stood x takes;
       back = rw (← lay-minus s (way m x), ← turned-way m x) (side-stood (turned x) (turned-takes v x takes));

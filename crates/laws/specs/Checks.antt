@@ -14,7 +14,7 @@ use Rattle.range.specs.Ranges.{between-naturals}
 
 -- what a refusal tells: 1 to 8, before the first step
 pub record CheckRefusal (c : Probe) (r : Stop) : Type 0 where
-  pub noStep : r.steps ≡ 0
+  pub no_step : r.steps ≡ 0
   pub known : (1 ≤ r.number) × (r.number ≤ 8)
   pub next : r.number ≡ 8 → NextLook c r
 
@@ -39,19 +39,19 @@ module _ (ok : Bool) (look : Vector → Look) (p : Vector) (frame reach : ℤ) w
 
   -- neither 8 nor a step
   refuse : {number : ℕ} {a : Vector} → (1 ≤ number) × (number ≤ 7) → CheckRefusal c (stop number a 0)
-  refuse h = record { noStep = refl; known = (h.0, omega (arith, h.1)); next = λ e. absurd (omega (arith, h.1, e)) }
+  refuse h = record { no_step = refl; known = (h.0, omega (arith, h.1)); next = λ e. absurd (omega (arith, h.1, e)) }
 
   at_once : {number : ℕ} {a : Vector} → (1 ≤ number) × (number ≤ 7) → CheckStopped (stop number a 0) []
   at_once h = record { refusal = refuse h; few = omega arith; small = inl refl }
 
   permitted-small : Passed ok c p frame reach → nat_abs reach ≤ 256
-  permitted-small h = (between-naturals 1 256 reach h.permittedReach).1
+  permitted-small h = (between-naturals 1 256 reach h.permitted_reach).1
 
   looked : {number : ℕ} {a : Vector} {t : List Vector} → Passed ok c p frame reach → (1 ≤ number) × (number ≤ 7) → length t ≤ 2 → CheckStopped (stop number a 0) t
   looked h k l = record { refusal = refuse k; few = omega (arith, l); small = inr (permitted-small h) }
 
   axis-rule : (k : Axis) → AxisRule c (CheckRefusal c) k
-  axis-rule k = record { eight = λ a h. record { noStep = refl; known = (omega arith, omega arith); next = λ _. h }; seven = λ _ _. refuse (omega arith, omega arith) }
+  axis-rule k = record { eight = λ a h. record { no_step = refl; known = (omega arith, omega arith); next = λ _. h }; seven = λ _ _. refuse (omega arith, omega arith) }
 
   every-check : StartRule ok look p frame reach (axes c) (λ v t. AxesOf c v × (length t + length (remaining v) * K ≤ 2 + 6 * K)) CheckStopped
   every-check = record {
@@ -60,13 +60,13 @@ module _ (ok : Bool) (look : Vector → Look) (p : Vector) (frame reach : ℤ) w
         one = λ _. at_once (omega arith, omega arith);
         two = λ _. at_once (omega arith, omega arith);
         three = λ _. at_once (omega arith, omega arith);
-        fourStart = λ _. at_once (omega arith, omega arith);
-        fourApex = λ _. at_once (omega arith, omega arith);
+        four_start = λ _. at_once (omega arith, omega arith);
+        four_apex = λ _. at_once (omega arith, omega arith);
       };
       five = λ h _. looked h (omega arith, omega arith) (omega arith);
       six = λ h _ _. looked h (omega arith, omega arith) (omega arith);
     };
-    beginSays = λ h.
+    begin_says = λ h.
         says-weaker _ (λ v t k. (k.0, omega (arith, k.1))) (λ r t k. record { refusal = k.holds; few = omega (arith, k.few); small = inr (permitted-small h.passed) })
         (axes-says c axis-rule (λ _. refuse (omega arith, omega arith)));
   }

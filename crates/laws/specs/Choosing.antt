@@ -14,9 +14,9 @@ use Rattle.rules.specs.declared.Triangle.{Triangle}
 use Rattle.rules.specs.declared.Pair.{Pair}
 use Rattle.rules.specs.declared.Choice.{Choice}
 use Rattle.rules.specs.declared.Choice.TheVariants.{Nothing, Chosen}
-use Rattle.rules.specs.Walk.{inside, anyInside, firstFree, choice}
+use Rattle.rules.specs.Walk.{inside, any_inside, first_free, choice}
 use Rattle.laws.specs.Tests.{is_true, is_false, Each, In}
-use Rattle.laws.specs.Triples.{detOf}
+use Rattle.laws.specs.Triples.{det_of}
 use Rattle.laws.specs.Sphere.{weight, inside-by-weight}
 
 -- ---- the choice of one round, pair by pair, as code makes it
@@ -34,12 +34,12 @@ abbrev pub Chose : (Pair → Type 0) → Type 0 → Choice → Type 0
 Chose P Z Nothing = Z
 Chose P Z (Chosen x) = P x
 
-first-free-is : (P : Pair → Type 0) (m : Triangle) (fs xs : List Pair) → Each P xs → Chose P (Unit {0}) (firstFree m fs xs)
-unfolding firstFree
+first-free-is : (P : Pair → Type 0) (m : Triangle) (fs xs : List Pair) → Each P xs → Chose P (Unit {0}) (first_free m fs xs)
+unfolding first_free
 first-free-is P m fs [] h = tt
-first-free-is P m fs (x ∷ xs) h = go (anyInside m x fs) (first-free-is P m fs xs h.1)
+first-free-is P m fs (x ∷ xs) h = go (any_inside m x fs) (first-free-is P m fs xs h.1)
   where
-    go : (b : Bool) → Chose P (Unit {0}) (firstFree m fs xs) → Chose P (Unit {0}) (elim b [ false ↦ Chosen x | true ↦ firstFree m fs xs ])
+    go : (b : Bool) → Chose P (Unit {0}) (first_free m fs xs) → Chose P (Unit {0}) (elim b [ false ↦ Chosen x | true ↦ first_free m fs xs ])
     go false r = h.0
     go true r = r
 
@@ -48,7 +48,7 @@ unfolding choice
 choice-is P m fs h = first-free-is P m fs fs h
 
 -- ---- inside, by the weight
-module _ (m : Triangle) (d : detOf m ≡ pos 1) where
+module _ (m : Triangle) (d : det_of m ≡ pos 1) where
   inside-less : (x y : Pair) → T (inside m x y) → weight m y <ℤ weight m x
   inside-less x y t = lt_z_yes (subst T (inside-by-weight m d x y) t)
 
@@ -62,27 +62,27 @@ module _ (m : Triangle) (d : detOf m ≡ pos 1) where
   not-inside-itself x = is_false (inside m x x) (λ t. let h = inside-less x x t in omega (arith, parts))
 
   -- ---- some of a list is inside
-  some-inside : (x z : Pair) (ys : List Pair) → In z ys → T (inside m x z) → anyInside m x ys ≡ true
-  unfolding anyInside
+  some-inside : (x z : Pair) (ys : List Pair) → In z ys → T (inside m x z) → any_inside m x ys ≡ true
+  unfolding any_inside
   some-inside x z [] i t = absurd i
   some-inside x z (y ∷ ys) (inl e) t = rw (← e, is_true (inside m x z) t)
   some-inside x z (y ∷ ys) (inr i) t = go (inside m x y) (some-inside x z ys i t)
     where
-      go : (b : Bool) → anyInside m x ys ≡ true → b || anyInside m x ys ≡ true
+      go : (b : Bool) → any_inside m x ys ≡ true → b || any_inside m x ys ≡ true
       go true r = refl
       go false r = r
 
-  find-inside : (x : Pair) (ys : List Pair) → T (anyInside m x ys) → (z : Pair) × In z ys × T (inside m x z)
-  unfolding anyInside
+  find-inside : (x : Pair) (ys : List Pair) → T (any_inside m x ys) → (z : Pair) × In z ys × T (inside m x z)
+  unfolding any_inside
   find-inside x [] e = absurd e
   find-inside x (y ∷ ys) e = go (inside m x y) refl e (find-inside x ys)
     where
-      go : (b : Bool) → inside m x y ≡ b → T (b || anyInside m x ys) → (T (anyInside m x ys) → (z : Pair) × In z ys × T (inside m x z)) → (z : Pair) × In z (y ∷ ys) × T (inside m x z)
+      go : (b : Bool) → inside m x y ≡ b → T (b || any_inside m x ys) → (T (any_inside m x ys) → (z : Pair) × In z ys × T (inside m x z)) → (z : Pair) × In z (y ∷ ys) × T (inside m x z)
       go true i e r = (y, inl refl, rw i tt)
       go false i e r = let f = r e in (f.0, inr f.1, f.2)
 
-  none_inside : (x : Pair) (ys : List Pair) → ((z : Pair) → In z ys → T (inside m x z) → ⊥) → anyInside m x ys ≡ false
-  none_inside x ys h = is_false (anyInside m x ys) (λ t. let f = find-inside x ys t in h f.0 f.1 f.2)
+  none_inside : (x : Pair) (ys : List Pair) → ((z : Pair) → In z ys → T (inside m x z) → ⊥) → any_inside m x ys ≡ false
+  none_inside x ys h = is_false (any_inside m x ys) (λ t. let f = find-inside x ys t in h f.0 f.1 f.2)
 
   -- what is inside x's sphere is among ys, if y is not inside it
   not_first : (x y z : Pair) (ys : List Pair) → inside m x y ≡ false → T (inside m x z) → In z (y ∷ ys) → In z ys
@@ -91,9 +91,9 @@ module _ (m : Triangle) (d : detOf m ≡ pos 1) where
 
   -- ---- the best so far is x, ys are still to come: whatever is inside x's sphere is among ys
   best-from : (fs ys : List Pair) (x : Pair) → ((z : Pair) → In z ys → In z fs) → ((z : Pair) → In z fs → T (inside m x z) → In z ys)
-      → best m (Chosen x) ys ≡ firstFree m fs (x ∷ ys)
-  unfolding best better firstFree
-  best-from fs [] x sub left = rw (none_inside x fs left, firstFree)
+      → best m (Chosen x) ys ≡ first_free m fs (x ∷ ys)
+  unfolding best better first_free
+  best-from fs [] x sub left = rw (none_inside x fs left, first_free)
   best-from fs (y ∷ ys) x sub left = go (inside m x y) refl (best-from fs ys y (λ z i. sub z (inr i))) (best-from fs ys x (λ z i. sub z (inr i)))
     where
       -- y is better: x has y inside, and what is inside y's sphere is inside x's
@@ -103,24 +103,24 @@ module _ (m : Triangle) (d : detOf m ≡ pos 1) where
           not_first y y z ys (not-inside-itself y) u (left z i (less-inside x z (omega (arith, parts))))
 
       -- y is no better: where x is not free, neither is y
-      skip : inside m x y ≡ false → (b : Bool) → anyInside m x fs ≡ b
-          → ◌≡◌ {A = Choice} (elim b [ false ↦ Chosen x | true ↦ firstFree m fs ys ]) (elim b [ false ↦ Chosen x | true ↦ firstFree m fs (y ∷ ys) ])
+      skip : inside m x y ≡ false → (b : Bool) → any_inside m x fs ≡ b
+          → ◌≡◌ {A = Choice} (elim b [ false ↦ Chosen x | true ↦ first_free m fs ys ]) (elim b [ false ↦ Chosen x | true ↦ first_free m fs (y ∷ ys) ])
       skip e false a = refl
       skip e true a =
           let f = find-inside x fs (rw a tt) in
           let h = inside-less x f.0 f.2 in let k = not-inside x y e in
-          rw (some-inside y f.0 fs f.1 (less-inside y f.0 (omega (arith, parts))), firstFree)
+          rw (some-inside y f.0 fs f.1 (less-inside y f.0 (omega (arith, parts))), first_free)
 
       go : (b : Bool) → inside m x y ≡ b
-          → (((z : Pair) → In z fs → T (inside m y z) → In z ys) → best m (Chosen y) ys ≡ firstFree m fs (y ∷ ys))
-          → (((z : Pair) → In z fs → T (inside m x z) → In z ys) → best m (Chosen x) ys ≡ firstFree m fs (x ∷ ys))
-          → best m (elim b [ true ↦ Chosen y | false ↦ Chosen x ]) ys ≡ firstFree m fs (x ∷ y ∷ ys)
-      go true e r _ = rw (some-inside x y fs (sub y (inl refl)) (rw e tt), firstFree) (r (nearer (rw e tt)))
-      go false e _ r = r (λ z i u. not_first x y z ys e u (left z i u)) ∙ skip e (anyInside m x fs) refl
+          → (((z : Pair) → In z fs → T (inside m y z) → In z ys) → best m (Chosen y) ys ≡ first_free m fs (y ∷ ys))
+          → (((z : Pair) → In z fs → T (inside m x z) → In z ys) → best m (Chosen x) ys ≡ first_free m fs (x ∷ ys))
+          → best m (elim b [ true ↦ Chosen y | false ↦ Chosen x ]) ys ≡ first_free m fs (x ∷ y ∷ ys)
+      go true e r _ = rw (some-inside x y fs (sub y (inl refl)) (rw e tt), first_free) (r (nearer (rw e tt)))
+      go false e _ r = r (λ z i u. not_first x y z ys e u (left z i u)) ∙ skip e (any_inside m x fs) refl
 
   -- the pair that is left at the end of a round is the choice
   pub best-is-choice : (fs : List Pair) → best m Nothing fs ≡ choice m fs
-  unfolding best better choice firstFree
+  unfolding best better choice first_free
   best-is-choice [] = refl
   best-is-choice (f ∷ fs) = best-from (f ∷ fs) fs f (λ z i. inr i) (λ z i t. not_first f f z fs (not-inside-itself f) t i)
 

@@ -11,9 +11,9 @@ use Rattle.rules.specs.declared.Vector.{Vector}
 use Rattle.rules.specs.declared.Solid.{Solid}
 use Rattle.rules.specs.declared.Look.TheVariants.{Filled, Empty}
 use Rattle.rules.specs.Vectors.{◌⊕◌, minus, lay}
-use Rattle.rules.specs.Solids.{inSide, box, inBox, look}
-use Rattle.rules.specs.Walk.{Stop, stop, Axis, axis0, axis1, axis2, unit, Probe, corner, cornersFilled}
-use Rattle.rules.specs.Pick.{isInside}
+use Rattle.rules.specs.Solids.{in_side, box, in_box, look}
+use Rattle.rules.specs.Walk.{Stop, stop, Axis, axis0, axis1, axis2, unit, Probe, corner, corners_filled}
+use Rattle.rules.specs.Pick.{is_inside}
 use Rattle.laws.specs.Tests.{Each}
 use Rattle.laws.specs.Parts.{part, part-sum, part-minus, part-lay}
 use Rattle.laws.specs.Says.{Says, says-answer, says-weaker, says-bind, says-ensure}
@@ -23,15 +23,15 @@ use Rattle.laws.specs.Boxes.{look-inside}
 use Rattle.laws.specs.PickRule.{looked-inside}
 
 -- ---- in the box
-box-part : (sides v : Vector) → T (inBox sides v) → (j : Axis) → T (inSide (part j sides) (part j v))
-unfolding inBox
-box-part sides v t axis0 = (and_yes (inSide sides.x v.x) _ t).0
-box-part sides v t axis1 = (and_yes (inSide sides.y v.y) (inSide sides.z v.z) (and_yes (inSide sides.x v.x) _ t).1).0
-box-part sides v t axis2 = (and_yes (inSide sides.y v.y) (inSide sides.z v.z) (and_yes (inSide sides.x v.x) _ t).1).1
+box-part : (sides v : Vector) → T (in_box sides v) → (j : Axis) → T (in_side (part j sides) (part j v))
+unfolding in_box
+box-part sides v t axis0 = (and_yes (in_side sides.x v.x) _ t).0
+box-part sides v t axis1 = (and_yes (in_side sides.y v.y) (in_side sides.z v.z) (and_yes (in_side sides.x v.x) _ t).1).0
+box-part sides v t axis2 = (and_yes (in_side sides.y v.y) (in_side sides.z v.z) (and_yes (in_side sides.x v.x) _ t).1).1
 
-in-box-by : (sides v : Vector) → ((j : Axis) → T (inSide (part j sides) (part j v))) → T (inBox sides v)
-unfolding inBox
-in-box-by sides v h = yes_and (inSide sides.x v.x) _ (h axis0) (yes_and (inSide sides.y v.y) (inSide sides.z v.z) (h axis1) (h axis2))
+in-box-by : (sides v : Vector) → ((j : Axis) → T (in_side (part j sides) (part j v))) → T (in_box sides v)
+unfolding in_box
+in-box-by sides v h = yes_and (in_side sides.x v.x) _ (h axis0) (yes_and (in_side sides.y v.y) (in_side sides.z v.z) (h axis1) (h axis2))
 
 unit-part : (j k : Axis) → (part j (unit k) ≡ pos 1) ⊎ (part j (unit k) ≡ pos 0)
 unit-part axis0 axis0 = inl refl
@@ -65,14 +65,14 @@ module _ (p s : Vector) where
       go (inl e) = inl (rw (parts_are, e, part-sum j p s) (back (part j p) (part j s)))
       go (inr e) = inr (rw (parts_are, e) (stays (part j (p ⊕ s)) (part j s)))
 
-  beside-in : (sides : Vector) → T (inBox sides p) → T (inBox sides (p ⊕ s)) → (k : Axis) → T (inBox sides (beside k))
+  beside-in : (sides : Vector) → T (in_box sides p) → T (in_box sides (p ⊕ s)) → (k : Axis) → T (in_box sides (beside k))
   beside-in sides h i k = in-box-by sides (beside k) (λ j. go j (beside-part k j))
     where
-      go : (j : Axis) → (part j (beside k) ≡ part j p) ⊎ (part j (beside k) ≡ part j (p ⊕ s)) → T (inSide (part j sides) (part j (beside k)))
+      go : (j : Axis) → (part j (beside k) ≡ part j p) ⊎ (part j (beside k) ≡ part j (p ⊕ s)) → T (in_side (part j sides) (part j (beside k)))
       go j (inl e) = rw e (box-part sides p h j)
       go j (inr e) = rw e (box-part sides (p ⊕ s) i j)
 
-pub corner-inside : (solid : Solid) (bytes : List ℕ) (p s : Vector) → T (isInside (look solid bytes p)) → T (isInside (look solid bytes (p ⊕ s))) → (k : Axis) → T (isInside (look solid bytes (p ⊕ s ⊕ lay s (minus (unit k)))))
+pub corner-inside : (solid : Solid) (bytes : List ℕ) (p s : Vector) → T (is_inside (look solid bytes p)) → T (is_inside (look solid bytes (p ⊕ s))) → (k : Axis) → T (is_inside (look solid bytes (p ⊕ s ⊕ lay s (minus (unit k)))))
 corner-inside solid bytes p s h i k =
     rw (look-inside solid bytes (beside p s k)) (beside-in p s (box solid) (rw (look-inside solid bytes p) at h) (rw (look-inside solid bytes (p ⊕ s)) at i) k)
 
@@ -95,9 +95,9 @@ module _ (c : Probe) where
   FirstEmpty (e ∷ es) r zero = ⊥
   FirstEmpty (e ∷ es) r (suc n) = ((c.look (corner c e) ≡ Empty) × (r ≡ stop 11 (corner c e) 0) × (n ≡ 0)) ⊎ ((c.look (corner c e) ≡ Filled) × FirstEmpty es r n)
 
-  pub corners-say : (es : List Vector) → Each (λ e. T (isInside (c.look (corner c e)))) es
-      → Says (λ _ t. Each (λ e. c.look (corner c e) ≡ Filled) es × (length t ≡ length es)) (λ r t. FirstEmpty es r (length t)) (cornersFilled c es)
-  unfolding cornersFilled
+  pub corners-say : (es : List Vector) → Each (λ e. T (is_inside (c.look (corner c e)))) es
+      → Says (λ _ t. Each (λ e. c.look (corner c e) ≡ Filled) es × (length t ≡ length es)) (λ r t. FirstEmpty es r (length t)) (corners_filled c es)
+  unfolding corners_filled
   corners-say [] i = says-answer (tt, refl)
   corners-say (e ∷ es) i =
       says-bind {G = λ r t. FirstEmpty (e ∷ es) r (length t)} _ _ (looked-inside c (corner c e) i.0) (λ r t k. k) (λ f t a. rw a.1

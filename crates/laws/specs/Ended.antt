@@ -16,10 +16,10 @@ use Rattle.rules.specs.declared.Choice.{Choice}
 use Rattle.rules.specs.declared.Choice.TheVariants.{Nothing, Chosen}
 use Rattle.rules.specs.Vectors.{◌⊕◌, scale, lay}
 use Rattle.rules.specs.Asked.{Asked, answered, refused, after, ◌>>=◌}
-use Rattle.rules.specs.Walk.{Stop, stop, asked, Probe, lookAt, fallsAt, falls, falling, round, walk, way, step, keep, firstFree, choice}
+use Rattle.rules.specs.Walk.{Stop, stop, asked, Probe, look_at, falls_at, falls, falling, round, walk, way, step, keep, first_free, choice}
 use Rattle.laws.specs.Tests.{In}
 use Rattle.laws.specs.Only.{each_in}
-use Rattle.laws.specs.Triples.{detOf, step-det}
+use Rattle.laws.specs.Triples.{det_of, step-det}
 use Rattle.laws.specs.Tame.{units-tame}
 use Rattle.laws.specs.Choosing.{Chose, choice-is, choice-exists}
 use Rattle.laws.specs.Says.{says-answered}
@@ -43,37 +43,37 @@ module _ (c : Probe) where
   pub stood-among : {s t : List Vector} (u : Vector) → Among s t → Stood s u → Stood t u
   stood-among u a h l i = stood-there a (h l i)
 
-  look-empty : (p : Vector) {t : List Vector} → lookAt c.look p ≡ answered false t → In p t × (c.look p ≡ Empty)
+  look-empty : (p : Vector) {t : List Vector} → look_at c.look p ≡ answered false t → In p t × (c.look p ≡ Empty)
   look-empty p e = let h = says-answered (look-says c p) e in (rw h.1 (inl refl), h.0)
 
   -- a vector that did not fall
-  stood-at : (u : Vector) (ls : List ℕ) {t : List Vector} → fallsAt c.look c.apex u ls ≡ answered false t → (l : ℕ) → In l ls → StoodAt t u l
-  unfolding fallsAt
+  stood-at : (u : Vector) (ls : List ℕ) {t : List Vector} → falls_at c.look c.apex u ls ≡ answered false t → (l : ℕ) → In l ls → StoodAt t u l
+  unfolding falls_at
   stood-at u [] e l i = absurd i
   stood-at u (k ∷ ls) {t} e l i = go b.answer b.first b.second (λ d. stood-at u ls d l) i
     where
-      b : Both (lookAt c.look (c.apex ⊕ scale (pos k) u)) (λ f. elim f [ true ↦ answered true [] | false ↦ fallsAt c.look c.apex u ls ]) false t
+      b : Both (look_at c.look (c.apex ⊕ scale (pos k) u)) (λ f. elim f [ true ↦ answered true [] | false ↦ falls_at c.look c.apex u ls ]) false t
       b = both-answered _ _ e
 
-      go : (f : Bool) → lookAt c.look (c.apex ⊕ scale (pos k) u) ≡ answered f b.front → ◌≡◌ {A = Asked Vector Bool} (elim f [ true ↦ answered true [] | false ↦ fallsAt c.look c.apex u ls ]) (answered false b.behind)
-          → (fallsAt c.look c.apex u ls ≡ answered false b.behind → In l ls → StoodAt b.behind u l) → In l (k ∷ ls) → StoodAt t u l
+      go : (f : Bool) → look_at c.look (c.apex ⊕ scale (pos k) u) ≡ answered f b.front → ◌≡◌ {A = Asked Vector Bool} (elim f [ true ↦ answered true [] | false ↦ falls_at c.look c.apex u ls ]) (answered false b.behind)
+          → (falls_at c.look c.apex u ls ≡ answered false b.behind → In l ls → StoodAt b.behind u l) → In l (k ∷ ls) → StoodAt t u l
       go true a d r i = absurd (let z : ◌≡◌ {A = ℕ} 0 1 = cc in omega arith)
-      go false a d r (inl p) = let h = look-empty _ a in rw p (record { looked = b.firstAmong.each _ h.0; empty = h.1 })
-      go false a d r (inr i) = stood-there b.secondAmong (r d i)
+      go false a d r (inl p) = let h = look-empty _ a in rw p (record { looked = b.first_among.each _ h.0; empty = h.1 })
+      go false a d r (inr i) = stood-there b.second_among (r d i)
 
   pub falls-stood : (u : Vector) {t : List Vector} → falls c u ≡ answered false t → Stood t u
   falls-stood u e = stood-at u c.powers e
 
-  abbrev laidWay : Triangle → Pair → Vector
-  laidWay m x = lay c.signs (way m x)
+  abbrev laid_way : Triangle → Pair → Vector
+  laid_way m x = lay c.signs (way m x)
 
   -- of a round no pair fell
-  none-stood : (m : Triangle) (xs : List Pair) {fs : List Pair} {t : List Vector} → falling c m xs ≡ answered fs t → fs ≡ [] → (x : Pair) → In x xs → Stood t (laidWay m x)
+  none-stood : (m : Triangle) (xs : List Pair) {fs : List Pair} {t : List Vector} → falling c m xs ≡ answered fs t → fs ≡ [] → (x : Pair) → In x xs → Stood t (laid_way m x)
   unfolding falling keep
   none-stood m [] e n x i = absurd i
   none-stood m (y ∷ ys) {fs} {t} e n x i = go b.answer b.first keeps (λ k. none-stood m ys d.first k x) i
     where
-      b : Both (falls c (laidWay m y)) (λ f. falling c m ys >>= λ r. answered (keep f y r) []) fs t
+      b : Both (falls c (laid_way m y)) (λ f. falling c m ys >>= λ r. answered (keep f y r) []) fs t
       b = both-answered _ _ e
 
       d : Both (falling c m ys) (λ r. answered (keep b.answer y r) []) fs b.behind
@@ -82,24 +82,24 @@ module _ (c : Probe) where
       keeps : keep b.answer y d.answer ≡ []
       keeps = let is : keep b.answer y d.answer ≡ fs = let k = d.second in cc in is ∙ n
 
-      go : (f : Bool) → falls c (laidWay m y) ≡ answered f b.front → keep f y d.answer ≡ [] → (d.answer ≡ [] → In x ys → Stood d.front (laidWay m x)) → In x (y ∷ ys) → Stood t (laidWay m x)
+      go : (f : Bool) → falls c (laid_way m y) ≡ answered f b.front → keep f y d.answer ≡ [] → (d.answer ≡ [] → In x ys → Stood d.front (laid_way m x)) → In x (y ∷ ys) → Stood t (laid_way m x)
       go true a k r i = absurd (let z : ◌≡◌ {A = ℕ} 0 1 = cc in omega arith)
-      go false a k r (inl p) = rw p (stood-among _ b.firstAmong (falls-stood (laidWay m y) a))
-      go false a k r (inr i) = stood-among _ b.secondAmong (stood-among _ d.firstAmong (r k i))
+      go false a k r (inl p) = rw p (stood-among _ b.first_among (falls-stood (laid_way m y) a))
+      go false a k r (inr i) = stood-among _ b.second_among (stood-among _ d.first_among (r k i))
 
   module _ (ps : List Pair) where
     -- ---- every triangle that a walk meets has determinant 1
-    pub reached-determinant : (n : ℕ) (m : Triangle) → Reached c ps n m → detOf m ≡ pos 1
-    reached-determinant zero m e = ap detOf e ∙ units-tame.unimodular
-    reached-determinant (suc n) m r = ap detOf r.4 ∙ step-det r.0 r.1 ∙ reached-determinant n r.0 r.2
+    pub reached-determinant : (n : ℕ) (m : Triangle) → Reached c ps n m → det_of m ≡ pos 1
+    reached-determinant zero m e = ap det_of e ∙ units-tame.unimodular
+    reached-determinant (suc n) m r = ap det_of r.4 ∙ step-det r.0 r.1 ∙ reached-determinant n r.0 r.2
 
     -- where a pair falls: refusal 9, or a step and the rounds after it
-    abbrev pub goesOn : ℕ → ℕ → Triangle → Pair → Asked Stop (Triangle × ℕ)
-    goesOn zero n m x = refused (stop 9 c.apex n) []
-    goesOn (suc left) n m x = walk c ps left (suc n) (step m x)
+    abbrev pub goes_on : ℕ → ℕ → Triangle → Pair → Asked Stop (Triangle × ℕ)
+    goes_on zero n m x = refused (stop 9 c.apex n) []
+    goes_on (suc left) n m x = walk c ps left (suc n) (step m x)
 
     abbrev rest : ℕ → ℕ → Triangle → Choice → Asked Stop (Triangle × ℕ)
-    rest left n m = λ chosen. elim chosen [ Nothing ↦ answered (m, n) [] | Chosen x ↦ goesOn left n m x ]
+    rest left n m = λ chosen. elim chosen [ Nothing ↦ answered (m, n) [] | Chosen x ↦ goes_on left n m x ]
 
     walk-text : (left n : ℕ) (m : Triangle) → walk c ps left n m ≡ (asked n (round c ps m) >>= rest left n m)
     unfolding walk
@@ -108,13 +108,13 @@ module _ (c : Probe) where
 
     -- the round at m after n steps, in which the pairs fs fell: the walk ends there exactly if none did
     pub record EndsIfNoneFalls (left n : ℕ) (m : Triangle) (fs : List Pair) (t : List Vector) : Type 0 where
-      pub determinant : detOf m ≡ pos 1
+      pub determinant : det_of m ≡ pos 1
       pub ends : fs ≡ [] → walk c ps left n m ≡ answered (m, n) t
       pub only : (u : List Vector) → walk c ps left n m ≡ answered (m, n) u → fs ≡ []
-      pub goes : (fs ≡ [] → ⊥) → (x : Pair) × In x fs × (walk c ps left n m ≡ after t (goesOn left n m x)) × Reached c ps (suc n) (step m x)
+      pub goes : (fs ≡ [] → ⊥) → (x : Pair) × In x fs × (walk c ps left n m ≡ after t (goes_on left n m x)) × Reached c ps (suc n) (step m x)
 
     -- a walk that goes on has taken no fewer steps at its end
-    no-fewer : (n : ℕ) (m : Triangle) (left : ℕ) {e : Triangle × ℕ} {t : List Vector} → walk c ps left n m ≡ answered e t → ((y : Pair) (u : List Vector) → goesOn left n m y ≡ answered e u → n ≤ e.1) → n ≤ e.1
+    no-fewer : (n : ℕ) (m : Triangle) (left : ℕ) {e : Triangle × ℕ} {t : List Vector} → walk c ps left n m ≡ answered e t → ((y : Pair) (u : List Vector) → goes_on left n m y ≡ answered e u → n ≤ e.1) → n ≤ e.1
     no-fewer n m left {e} {t} w later = go b.answer b.second
       where
         b : Both (asked n (round c ps m)) (rest left n m) e t
@@ -129,7 +129,7 @@ module _ (c : Probe) where
     steps-kept (suc left) n m w = no-fewer n m (suc left) w (λ y u k. omega (arith, steps-kept left (suc n) (step m y) k))
 
     -- so where a pair falls it does not end here: it refuses 9, or takes one step more at least
-    not-here : (left n : ℕ) (m : Triangle) (x : Pair) (t : List Vector) {u : List Vector} → after t (goesOn left n m x) ≡ answered (m, n) u → ⊥
+    not-here : (left n : ℕ) (m : Triangle) (x : Pair) (t : List Vector) {u : List Vector} → after t (goes_on left n m x) ≡ answered (m, n) u → ⊥
     unfolding after
     not-here zero n m x t w = let z : ◌≡◌ {A = ℕ} 0 1 = cc in omega arith
     not-here (suc left) n m x t {u} w = go (walk c ps left (suc n) (step m x)) refl w
@@ -151,10 +151,10 @@ module _ (c : Probe) where
       walk_is left x f = walk-text left n m ∙ rw round_is (ap (λ (x : Choice). after t (rest left n m x)) f)
 
       pub walk_ends : (left : ℕ) → EndsIfNoneFalls left n m fs t
-      unfolding after choice firstFree
+      unfolding after choice first_free
       walk_ends left = record { determinant = one; ends = ends; only = only; goes = goes }
         where
-          one : detOf m ≡ pos 1
+          one : det_of m ≡ pos 1
           one = reached-determinant n m r
 
           ends : fs ≡ [] → walk c ps left n m ≡ answered (m, n) t
@@ -167,33 +167,33 @@ module _ (c : Probe) where
               go Nothing f = choice-exists m one fs f
               go (Chosen x) f = absurd (not-here left n m x t (sym (walk_is left (Chosen x) f) ∙ w))
 
-          goes : (fs ≡ [] → ⊥) → (x : Pair) × In x fs × (walk c ps left n m ≡ after t (goesOn left n m x)) × Reached c ps (suc n) (step m x)
+          goes : (fs ≡ [] → ⊥) → (x : Pair) × In x fs × (walk c ps left n m ≡ after t (goes_on left n m x)) × Reached c ps (suc n) (step m x)
           goes some = go (choice m fs) refl (choice-is (λ x. In x fs) m fs (each_in fs))
             where
-              go : (y : Choice) → choice m fs ≡ y → Chose (λ x. In x fs) (Unit {0}) y → (x : Pair) × In x fs × (walk c ps left n m ≡ after t (goesOn left n m x)) × Reached c ps (suc n) (step m x)
+              go : (y : Choice) → choice m fs ≡ y → Chose (λ x. In x fs) (Unit {0}) y → (x : Pair) × In x fs × (walk c ps left n m ≡ after t (goes_on left n m x)) × Reached c ps (suc n) (step m x)
               go Nothing f i = absurd (some (choice-exists m one fs f))
               go (Chosen x) f i = (x, i, walk_is left (Chosen x) f, (m, x, r, subst (RoundOf c ps m) f (says-answered (round-says c ps m) round_is).holds, refl))
 
     -- ---- a walk that ended has looked at each way of its triangle, at each power
-    last-round : (m : Triangle) → detOf m ≡ pos 1 → {t : List Vector} → round c ps m ≡ answered Nothing t → (x : Pair) → In x ps → Stood t (laidWay m x)
+    last-round : (m : Triangle) → det_of m ≡ pos 1 → {t : List Vector} → round c ps m ≡ answered Nothing t → (x : Pair) → In x ps → Stood t (laid_way m x)
     unfolding round
     last-round m d e x i =
         let b = both-answered (falling c m ps) (λ fs. answered (choice m fs) []) e in
         let is : choice m b.answer ≡ Nothing = let k = b.second in cc in
-        stood-among _ b.firstAmong (none-stood m ps b.first (choice-exists m d b.answer is) x i)
+        stood-among _ b.first_among (none-stood m ps b.first (choice-exists m d b.answer is) x i)
 
     -- in this round or in a later one
-    ended : (n : ℕ) (m : Triangle) → detOf m ≡ pos 1 → (x : Pair) → In x ps → (e : Triangle × ℕ) (t : List Vector) (left : ℕ) → walk c ps left n m ≡ answered e t
-        → ((y : Pair) (u : List Vector) → goesOn left n m y ≡ answered e u → Stood u (laidWay e.0 x)) → Stood t (laidWay e.0 x)
+    ended : (n : ℕ) (m : Triangle) → det_of m ≡ pos 1 → (x : Pair) → In x ps → (e : Triangle × ℕ) (t : List Vector) (left : ℕ) → walk c ps left n m ≡ answered e t
+        → ((y : Pair) (u : List Vector) → goes_on left n m y ≡ answered e u → Stood u (laid_way e.0 x)) → Stood t (laid_way e.0 x)
     ended n m d x i e t left w later = go b.answer (asked-answered n _ b.first) b.second
       where
         b : Both (asked n (round c ps m)) (rest left n m) e t
         b = both-answered _ _ (sym (walk-text left n m) ∙ w)
 
-        go : (y : Choice) → round c ps m ≡ answered y b.front → rest left n m y ≡ answered e b.behind → Stood t (laidWay e.0 x)
-        go Nothing a k = let is : (m, n) ≡ e = cc in subst (λ (e : Triangle × ℕ). Stood t (laidWay e.0 x)) is (stood-among _ b.firstAmong (last-round m d a x i))
-        go (Chosen y) a k = stood-among _ b.secondAmong (later y _ k)
+        go : (y : Choice) → round c ps m ≡ answered y b.front → rest left n m y ≡ answered e b.behind → Stood t (laid_way e.0 x)
+        go Nothing a k = let is : (m, n) ≡ e = cc in subst (λ (e : Triangle × ℕ). Stood t (laid_way e.0 x)) is (stood-among _ b.first_among (last-round m d a x i))
+        go (Chosen y) a k = stood-among _ b.second_among (later y _ k)
 
-    pub end-stood : (left n : ℕ) (m : Triangle) → detOf m ≡ pos 1 → {e : Triangle × ℕ} {t : List Vector} → walk c ps left n m ≡ answered e t → (x : Pair) → In x ps → Stood t (lay c.signs (way e.0 x))
+    pub end-stood : (left n : ℕ) (m : Triangle) → det_of m ≡ pos 1 → {e : Triangle × ℕ} {t : List Vector} → walk c ps left n m ≡ answered e t → (x : Pair) → In x ps → Stood t (lay c.signs (way e.0 x))
     end-stood zero n m d {e} {t} w x i = ended n m d x i e t zero w (λ y u k. absurd (let z : ◌≡◌ {A = ℕ} 0 1 = cc in omega arith))
     end-stood (suc left) n m d {e} {t} w x i = ended n m d x i e t (suc left) w (λ y u k. end-stood left (suc n) (step m y) (step-det m y ∙ d) k x i)

@@ -9,14 +9,14 @@ use Rattle.rules.specs.declared.Levels.{Levels}
 use Rattle.rules.specs.declared.Triangle.{Triangle}
 use Rattle.rules.specs.declared.Pair.{Pair}
 use Rattle.rules.specs.Vectors.{vector, ◌⊕◌, ◌⊖◌, scale, dot}
-use Rattle.rules.specs.Walk.{Axis, axis0, axis1, axis2, unit, units, vectorOf, withVector, from, to, first, second, way, step, level, takesPart, unlessLevel, levelled, normal}
+use Rattle.rules.specs.Walk.{Axis, axis0, axis1, axis2, unit, units, vector_of, with_vector, from, to, first, second, way, step, level, takes_part, unless_level, levelled, normal}
 use Rattle.laws.specs.Parts.{part, part-difference, vector-eq, of2, dot-difference, dot-unit, scale_one}
-use Rattle.laws.specs.Triples.{all_of, detOf, normal-dot, crosses, combined, expand-crosses}
+use Rattle.laws.specs.Triples.{all_of, det_of, normal-dot, crosses, combined, expand-crosses}
 use Rattle.laws.specs.Levels.{from-remains, to-remains}
 
 -- ---- flat triangles
 -- P of the vector of each axis, and so of a triangle with a new m_k
-of-with : (P : Axis → Vector → Type 0) (m : Triangle) (k : Axis) (a : Vector) → ((j : Axis) → P j (vectorOf m j)) → P k a → (j : Axis) → P j (vectorOf (withVector m k a) j)
+of-with : (P : Axis → Vector → Type 0) (m : Triangle) (k : Axis) (a : Vector) → ((j : Axis) → P j (vector_of m j)) → P k a → (j : Axis) → P j (vector_of (with_vector m k a) j)
 of-with P m axis0 a h p axis0 = p
 of-with P m axis0 a h p axis1 = h axis1
 of-with P m axis0 a h p axis2 = h axis2
@@ -34,7 +34,7 @@ pub record Along (k j : Axis) (a : Vector) : Type 0 where
 
 -- so along every level axis
 abbrev pub Flat : Levels → Triangle → Type 0
-Flat v m = (k : Axis) → T (level v k) → (j : Axis) → Along k j (vectorOf m j)
+Flat v m = (k : Axis) → T (level v k) → (j : Axis) → Along k j (vector_of m j)
 
 pub units-flat : (v : Levels) → Flat v units
 units-flat v k e axis0 = record { part-is = refl; own = λ p. ap unit p }
@@ -55,7 +55,7 @@ other-part axis2 axis2 h = absurd (h refl)
 none-less : (z : ℤ) → z -ℤ pos 0 ≡ z
 none-less z = byring (z ∷ []) (search sides depth 40 fits 5000) tt
 
-pub step-flat : (v : Levels) (m : Triangle) (x : Pair) → T (takesPart v x) → Flat v m → Flat v (step m x)
+pub step-flat : (v : Levels) (m : Triangle) (x : Pair) → T (takes_part v x) → Flat v m → Flat v (step m x)
 step-flat v m x t f k e = of-with (Along k) m (from x) (first m x ⊖ second m x) (f k e) (record { part-is = new-part; own = λ p. absurd (not-level (from x) (from-remains v x t) p) })
   where
     not-level : (j : Axis) → T (not (level v j)) → j ≡ k → ⊥
@@ -73,9 +73,9 @@ unfoldable pub raised : Levels → Vector → Vector
 raised v n = vector (raise v.x n.x) (raise v.y n.y) (raise v.z n.z)
 
 -- 1 of a level axis
-abbrev pub isOne : Bool → ℤ
-isOne true = pos 1
-isOne false = pos 0
+abbrev pub is_one : Bool → ℤ
+is_one true = pos 1
+is_one false = pos 0
 
 -- the normal's product with an axis's vector: 0 with a level one's, 1 with one that remains
 abbrev pub product : Bool → ℤ
@@ -93,11 +93,11 @@ unit-part a d = byring (a ∷ d ∷ []) (search sides depth 40 fits 5000) tt
 no_part : (n a d : ℤ) → pos 0 *ℤ a ≡ n *ℤ d -ℤ pos 1 *ℤ n *ℤ d
 no_part n a d = byring (n ∷ a ∷ d ∷ []) (search sides depth 40 fits 5000) tt
 
-raise-part : (b : Bool) (n a d : ℤ) → (T b → n ≡ pos 0) → (T b → a ≡ d) → raise b n *ℤ a ≡ n *ℤ a +ℤ isOne b *ℤ d
+raise-part : (b : Bool) (n a d : ℤ) → (T b → n ≡ pos 0) → (T b → a ≡ d) → raise b n *ℤ a ≡ n *ℤ a +ℤ is_one b *ℤ d
 raise-part true n a d p q = *ℤ-idl a ∙ q tt ∙ unit-part a d ∙ ap (λ z. z *ℤ a +ℤ pos 1 *ℤ d) (sym (p tt))
 raise-part false n a d p q = byring (n ∷ a ∷ d ∷ []) (search sides depth 40 fits 5000) tt
 
-level-part : (b : Bool) (n a d : ℤ) → (T b → a ≡ d) → unlessLevel b n *ℤ a ≡ n *ℤ a -ℤ isOne b *ℤ n *ℤ d
+level-part : (b : Bool) (n a d : ℤ) → (T b → a ≡ d) → unless_level b n *ℤ a ≡ n *ℤ a -ℤ is_one b *ℤ n *ℤ d
 level-part true n a d q = no_part n a d ∙ ap (λ z. n *ℤ z -ℤ pos 1 *ℤ n *ℤ d) (sym (q tt))
 level-part false n a d q = byring (n ∷ a ∷ d ∷ []) (search sides depth 40 fits 5000) tt
 
@@ -110,57 +110,57 @@ over-unit c axis2 = byring (c axis0 ∷ c axis1 ∷ c axis2 ∷ []) (search side
 -- the products with a vector a that has d along the level axes
 module _ (v : Levels) (n a d : Vector) (h : (k : Axis) → T (level v k) → part k a ≡ part k d) where
   abbrev ones : List ℤ
-  ones = isOne v.x ∷ isOne v.y ∷ isOne v.z ∷ d.x ∷ d.y ∷ d.z ∷ of2 n a
+  ones = is_one v.x ∷ is_one v.y ∷ is_one v.z ∷ d.x ∷ d.y ∷ d.z ∷ of2 n a
 
-  raised-along : Lies v n → dot (raised v n) a ≡ dot n a +ℤ (isOne v.x *ℤ d.x +ℤ isOne v.y *ℤ d.y +ℤ isOne v.z *ℤ d.z)
+  raised-along : Lies v n → dot (raised v n) a ≡ dot n a +ℤ (is_one v.x *ℤ d.x +ℤ is_one v.y *ℤ d.y +ℤ is_one v.z *ℤ d.z)
   unfolding dot raised
   raised-along l =
       rw (raise-part v.x n.x a.x d.x (l axis0) (h axis0), raise-part v.y n.y a.y d.y (l axis1) (h axis1), raise-part v.z n.z a.z d.z (l axis2) (h axis2))
       (byring ones (search sides depth 40 fits 5000) tt)
 
-  levelled-along : dot (levelled v n) a ≡ dot n a -ℤ (isOne v.x *ℤ n.x *ℤ d.x +ℤ isOne v.y *ℤ n.y *ℤ d.y +ℤ isOne v.z *ℤ n.z *ℤ d.z)
+  levelled-along : dot (levelled v n) a ≡ dot n a -ℤ (is_one v.x *ℤ n.x *ℤ d.x +ℤ is_one v.y *ℤ n.y *ℤ d.y +ℤ is_one v.z *ℤ n.z *ℤ d.z)
   unfolding dot levelled
   levelled-along =
       rw (level-part v.x n.x a.x d.x (h axis0), level-part v.y n.y a.y d.y (h axis1), level-part v.z n.z a.z d.z (h axis2))
       (byring ones (search sides depth 40 fits 5000) tt)
 
-no_one : (b : Bool) → T (not b) → isOne b ≡ pos 0
+no_one : (b : Bool) → T (not b) → is_one b ≡ pos 0
 no_one true h = absurd h
 no_one false h = refl
 
 module _ (v : Levels) (m : Triangle) (f : Flat v m) where
-  part-along : (j k : Axis) → T (level v k) → part k (vectorOf m j) ≡ part k (unit j)
+  part-along : (j k : Axis) → T (level v k) → part k (vector_of m j) ≡ part k (unit j)
   part-along j k e = (f k e j).part-is
 
   module _ (n : Vector) (l : Lies v n) where
-    pub raised-dot : (j : Axis) → dot (raised v n) (vectorOf m j) ≡ dot n (vectorOf m j) +ℤ isOne (level v j)
-    raised-dot j = raised-along v n (vectorOf m j) (unit j) (part-along j) l ∙ ap (λ z. dot n (vectorOf m j) +ℤ z) (over-unit (λ k. isOne (level v k)) j)
+    pub raised-dot : (j : Axis) → dot (raised v n) (vector_of m j) ≡ dot n (vector_of m j) +ℤ is_one (level v j)
+    raised-dot j = raised-along v n (vector_of m j) (unit j) (part-along j) l ∙ ap (λ z. dot n (vector_of m j) +ℤ z) (over-unit (λ k. is_one (level v k)) j)
 
-    pub raised-same : (j : Axis) → T (not (level v j)) → dot (raised v n) (vectorOf m j) ≡ dot n (vectorOf m j)
-    raised-same j r = raised-dot j ∙ rw (no_one (level v j) r) (byring (dot n (vectorOf m j) ∷ []) (search sides depth 40 fits 5000) tt)
+    pub raised-same : (j : Axis) → T (not (level v j)) → dot (raised v n) (vector_of m j) ≡ dot n (vector_of m j)
+    raised-same j r = raised-dot j ∙ rw (no_one (level v j) r) (byring (dot n (vector_of m j) ∷ []) (search sides depth 40 fits 5000) tt)
 
     -- so the pairs that take part ask the same
-    pub raised-way : (x : Pair) → T (takesPart v x) → dot (raised v n) (way m x) ≡ dot n (way m x)
+    pub raised-way : (x : Pair) → T (takes_part v x) → dot (raised v n) (way m x) ≡ dot n (way m x)
     raised-way x t =
         dot-difference (raised v n) (second m x) (first m x) ∙ rw (raised-same (from x) (from-remains v x t), raised-same (to x) (to-remains v x t)) (sym (dot-difference n (second m x) (first m x)))
 
     -- none along a level axis
-    pub level-dot : (j : Axis) → T (level v j) → dot n (vectorOf m j) ≡ pos 0
+    pub level-dot : (j : Axis) → T (level v j) → dot n (vector_of m j) ≡ pos 0
     level-dot j e = ap (dot n) ((f j e j).own refl) ∙ dot-unit n j ∙ l j e
 
   -- on every solid: 0 with the level vectors and 1 with the others
-  product_is : (b : Bool) (z p : ℤ) → p ≡ pos 1 → (T b → z ≡ p) → p -ℤ isOne b *ℤ z ≡ product b
+  product_is : (b : Bool) (z p : ℤ) → p ≡ pos 1 → (T b → z ≡ p) → p -ℤ is_one b *ℤ z ≡ product b
   product_is true z p e h = rw (h tt, e)
   product_is false z p e h = rw e (byring (z ∷ []) (search sides depth 40 fits 5000) tt)
 
-  pub levelled-dot : detOf m ≡ pos 1 → (j : Axis) → dot (levelled v (normal m)) (vectorOf m j) ≡ product (level v j)
+  pub levelled-dot : det_of m ≡ pos 1 → (j : Axis) → dot (levelled v (normal m)) (vector_of m j) ≡ product (level v j)
   levelled-dot d j =
-      levelled-along v (normal m) (vectorOf m j) (unit j) (part-along j)
-      ∙ ap (λ z. dot (normal m) (vectorOf m j) -ℤ z) (over-unit (λ k. isOne (level v k) *ℤ part k (normal m)) j)
-      ∙ product_is (level v j) (part j (normal m)) (dot (normal m) (vectorOf m j)) (all_of (normal-dot m) j ∙ d) (λ e. sym (dot-unit (normal m) j) ∙ ap (dot (normal m)) (sym ((f j e j).own refl)))
+      levelled-along v (normal m) (vector_of m j) (unit j) (part-along j)
+      ∙ ap (λ z. dot (normal m) (vector_of m j) -ℤ z) (over-unit (λ k. is_one (level v k) *ℤ part k (normal m)) j)
+      ∙ product_is (level v j) (part j (normal m)) (dot (normal m) (vector_of m j)) (all_of (normal-dot m) j ∙ d) (λ e. sym (dot-unit (normal m) j) ∙ ap (dot (normal m)) (sym ((f j e j).own refl)))
 
 -- raised and levelled again is n
-back : (b : Bool) (z : ℤ) → (T b → z ≡ pos 0) → unlessLevel b (raise b z) ≡ z
+back : (b : Bool) (z : ℤ) → (T b → z ≡ pos 0) → unless_level b (raise b z) ≡ z
 back true z h = sym (h tt)
 back false z h = refl
 
@@ -172,6 +172,6 @@ levelled-raised v n l = vector-eq (back v.x n.x (l axis0)) (back v.y n.y (l axis
 spread : (a x y z p q r : ℤ) → a *ℤ x *ℤ p +ℤ a *ℤ y *ℤ q +ℤ a *ℤ z *ℤ r ≡ a *ℤ (x *ℤ p +ℤ y *ℤ q +ℤ z *ℤ r)
 spread a x y z p q r = byring (a ∷ x ∷ y ∷ z ∷ p ∷ q ∷ r ∷ []) (search sides depth 40 fits 5000) tt
 
-pub scaled-products : (n : Vector) (m : Triangle) (a : ℤ) (w : Axis → ℤ) → detOf m ≡ pos 1 → ((k : Axis) → dot n (vectorOf m k) ≡ a *ℤ w k) → n ≡ scale a (combined (crosses m) (w axis0) (w axis1) (w axis2))
+pub scaled-products : (n : Vector) (m : Triangle) (a : ℤ) (w : Axis → ℤ) → det_of m ≡ pos 1 → ((k : Axis) → dot n (vector_of m k) ≡ a *ℤ w k) → n ≡ scale a (combined (crosses m) (w axis0) (w axis1) (w axis2))
 unfolding scale ◌⊕◌
 scaled-products n m a w d h = sym (scale_one n) ∙ (rw (d, h axis0, h axis1, h axis2) at (expand-crosses m n)) ∙ vector-eq (spread a (w axis0) (w axis1) (w axis2) _ _ _) (spread a (w axis0) (w axis1) (w axis2) _ _ _) (spread a (w axis0) (w axis1) (w axis2) _ _ _)

@@ -24,7 +24,7 @@ sign-is (suc k) = inr refl
 
 pub signs-are : (frame : ℕ) → Signs (signs frame)
 unfolding signs
-signs-are frame = record { ofX = sign-is (frame % 2); ofY = sign-is (frame / 2 % 2); of_z = sign-is (frame / 4 % 2) }
+signs-are frame = record { of_x = sign-is (frame % 2); of_y = sign-is (frame / 2 % 2); of_z = sign-is (frame / 4 % 2) }
 
 -- ---- laying in twice is nothing
 twice : (s z : ℤ) → IsSign s → s *ℤ (s *ℤ z) ≡ z
@@ -33,7 +33,7 @@ twice s z (inr e) = rw e (byring (z ∷ []) (search sides depth 40 fits 5000) tt
 
 pub lay-lay : (s u : Vector) → Signs s → lay s (lay s u) ≡ u
 unfolding lay
-lay-lay s u g = vector-eq (twice s.x u.x g.ofX) (twice s.y u.y g.ofY) (twice s.z u.z g.of_z)
+lay-lay s u g = vector-eq (twice s.x u.x g.of_x) (twice s.y u.y g.of_y) (twice s.z u.z g.of_z)
 
 pub lay-dot : (s n u : Vector) → dot (lay s n) u ≡ dot n (lay s u)
 unfolding dot lay
@@ -87,7 +87,7 @@ lay-part-high s n g h k e = not-zero (part k (lay s n)) (lay-part-zero s n g k �
 
 pub lay-size : (s a : Vector) → Signs s → size (lay s a) ≡ size a
 unfolding size lay
-lay-size s a g = ap₂ ◌+◌ (ap₂ ◌+◌ (sign-size _ _ g.ofX) (sign-size _ _ g.ofY)) (sign-size _ _ g.of_z)
+lay-size s a g = ap₂ ◌+◌ (ap₂ ◌+◌ (sign-size _ _ g.of_x) (sign-size _ _ g.of_y)) (sign-size _ _ g.of_z)
 
 pub natural : (z : ℤ) → pos 0 ≤ℤ z → z ≡ pos (nat_abs z)
 natural (pos k) h = refl
@@ -95,7 +95,7 @@ natural (negsuc k) h = absurd h.le
 
 pub sum-size : (n : Vector) → NonNegative n → n.x +ℤ n.y +ℤ n.z ≡ pos (size n)
 unfolding size
-sum-size n h = ap₂ ◌+ℤ◌ (ap₂ ◌+ℤ◌ (natural _ h.ofX) (natural _ h.ofY)) (natural _ h.of_z)
+sum-size n h = ap₂ ◌+ℤ◌ (ap₂ ◌+ℤ◌ (natural _ h.of_x) (natural _ h.of_y)) (natural _ h.of_z)
 
 -- ---- a vector has one frame
 same-part : (s t a b : ℤ) → IsSign s → IsSign t → pos 1 ≤ℤ a → pos 1 ≤ℤ b → s *ℤ a ≡ t *ℤ b → (s ≡ t) × (a ≡ b)
@@ -107,7 +107,7 @@ same-part s t a b (inr p) (inr q) h k e = let x = atom a in let y = atom b in (p
 pub same-frame : (s t a b : Vector) → Signs s → Signs t → Positive a → Positive b → lay s a ≡ lay t b → (s ≡ t) × (a ≡ b)
 unfolding lay
 same-frame s t a b g k h j e =
-    let x = same-part _ _ _ _ g.ofX k.ofX h.ofX j.ofX (ap (λ (c : Vector). c.x) e) in
-    let y = same-part _ _ _ _ g.ofY k.ofY h.ofY j.ofY (ap (λ (c : Vector). c.y) e) in
+    let x = same-part _ _ _ _ g.of_x k.of_x h.of_x j.of_x (ap (λ (c : Vector). c.x) e) in
+    let y = same-part _ _ _ _ g.of_y k.of_y h.of_y j.of_y (ap (λ (c : Vector). c.y) e) in
     let z = same-part _ _ _ _ g.of_z k.of_z h.of_z j.of_z (ap (λ (c : Vector). c.z) e) in
     (vector-eq x.0 y.0 z.0, vector-eq x.1 y.1 z.1)

@@ -13,7 +13,7 @@ use Rattle.rules.specs.declared.Levels.{Levels}
 use Rattle.rules.specs.declared.Triangle.{Triangle}
 use Rattle.rules.specs.declared.Pair.TheVariants.{P01, P02}
 use Rattle.rules.specs.Vectors.{◌⊕◌, ◌⊖◌, scale, dot, origin}
-use Rattle.rules.specs.Walk.{Axis, axis0, axis1, axis2, allAxes, vectorOf, way, levels, level, keep, only, remaining}
+use Rattle.rules.specs.Walk.{Axis, axis0, axis1, axis2, all_axes, vector_of, way, levels, level, keep, only, remaining}
 use Rattle.laws.specs.Tests.{Each}
 use Rattle.laws.specs.Only.{each_of, each_both, each_map, only-holds}
 use Rattle.laws.specs.Parts.{part, vector-by-parts, part-sum, part-difference, part-scale, part-origin, dot-sum, dot-difference, dot-scale, dot-origin}
@@ -27,13 +27,13 @@ Combines [] v = v ≡ origin
 Combines (g ∷ gs) v = (c : ℤ) × Combines gs (v ⊖ scale c g)
 
 -- the sides between the corners of some axes
-abbrev pub sidesBetween : Triangle → List Axis → List Vector
-sidesBetween m [] = []
-sidesBetween m (k ∷ ks) = map (λ l. vectorOf m l ⊖ vectorOf m k) ks ++ sidesBetween m ks
+abbrev pub sides_between : Triangle → List Axis → List Vector
+sides_between m [] = []
+sides_between m (k ∷ ks) = map (λ l. vector_of m l ⊖ vector_of m k) ks ++ sides_between m ks
 
 -- the vectors of the level axes, and the sides between the other corners
 abbrev pub generators : Levels → Triangle → List Vector
-generators v m = map (vectorOf m) (only (level v) allAxes) ++ sidesBetween m (remaining v)
+generators v m = map (vector_of m) (only (level v) all_axes) ++ sides_between m (remaining v)
 
 -- ---- vectors
 module _ (u w g : Vector) where
@@ -120,33 +120,33 @@ module _ {A : Type 0} (c : A → ℤ) where
 
 -- ---- sides
 module _ (m : Triangle) (c : Axis → ℤ) where
-  from-corner : (k : Axis) (ks : List Axis) → sum c (λ l. vectorOf m l ⊖ vectorOf m k) ks ≡ sum c (vectorOf m) ks ⊖ scale (total c ks) (vectorOf m k)
+  from-corner : (k : Axis) (ks : List Axis) → sum c (λ l. vector_of m l ⊖ vector_of m k) ks ≡ sum c (vector_of m) ks ⊖ scale (total c ks) (vector_of m k)
   unfolding sum total
-  from-corner k [] = none-taken (vectorOf m k)
-  from-corner k (l ∷ ls) = ap (λ u. scale (c l) (vectorOf m l ⊖ vectorOf m k) ⊕ u) (from-corner k ls) ∙ gathered (vectorOf m k) (sum c (vectorOf m) ls) (vectorOf m l) (c l) (total c ls)
+  from-corner k [] = none-taken (vector_of m k)
+  from-corner k (l ∷ ls) = ap (λ u. scale (c l) (vector_of m l ⊖ vector_of m k) ⊕ u) (from-corner k ls) ∙ gathered (vector_of m k) (sum c (vector_of m) ls) (vector_of m l) (c l) (total c ls)
 
-  combines-sides : (ks : List Axis) → total c ks ≡ pos 0 → Combines (sidesBetween m ks) (sum c (vectorOf m) ks)
+  combines-sides : (ks : List Axis) → total c ks ≡ pos 0 → Combines (sides_between m ks) (sum c (vector_of m) ks)
   unfolding sum total
   combines-sides [] h = refl
   combines-sides (k ∷ ks) h =
-      subst (Combines (sidesBetween m (k ∷ ks))) (none-behind _ ∙ from-corner k ks ∙ leaning (vectorOf m k) (sum c (vectorOf m) ks) (c k) (total c ks) h)
-      (combines-both (map (λ l. vectorOf m l ⊖ vectorOf m k) ks) (sidesBetween m ks) _ origin (combines-map c (λ l. vectorOf m l ⊖ vectorOf m k) ks) (combines-none (sidesBetween m ks)))
+      subst (Combines (sides_between m (k ∷ ks))) (none-behind _ ∙ from-corner k ks ∙ leaning (vector_of m k) (sum c (vector_of m) ks) (c k) (total c ks) h)
+      (combines-both (map (λ l. vector_of m l ⊖ vector_of m k) ks) (sides_between m ks) _ origin (combines-map c (λ l. vector_of m l ⊖ vector_of m k) ks) (combines-none (sides_between m ks)))
 
 -- ---- a face: n has product 0 with the level vectors and 1 with the others
 abbrev pub Products : Levels → Vector → Triangle → Type 0
-Products v n m = (k : Axis) → dot n (vectorOf m k) ≡ product (level v k)
+Products v n m = (k : Axis) → dot n (vector_of m k) ≡ product (level v k)
 
 module _ (v : Levels) (n : Vector) (m : Triangle) (p : Products v n m) where
-  all_three : (c : Axis → ℤ) → combined m (c axis0) (c axis1) (c axis2) ≡ sum c (vectorOf m) allAxes
+  all_three : (c : Axis → ℤ) → combined m (c axis0) (c axis1) (c axis2) ≡ sum c (vector_of m) all_axes
   unfolding sum
   all_three c = sym (joined (scale (c axis0) m.m0) (scale (c axis1) m.m1) (scale (c axis2) m.m2)) ∙ ap (λ u. scale (c axis0) m.m0 ⊕ (scale (c axis1) m.m1 ⊕ u)) (sym (none-behind (scale (c axis2) m.m2)))
 
   pub face-generated : (c : Axis → ℤ) → dot n (combined m (c axis0) (c axis1) (c axis2)) ≡ pos 0 → Combines (generators v m) (combined m (c axis0) (c axis1) (c axis2))
   unfolding remaining
   face-generated c h =
-      subst (Combines (generators v m)) (sum-split c (vectorOf m) (level v) allAxes ∙ sym (all_three c))
-      (combines-both (map (vectorOf m) (only (level v) allAxes)) (sidesBetween m (remaining v)) _ _ (combines-map c (vectorOf m) (only (level v) allAxes))
-      (combines-sides m c (remaining v) (sym (dot-total c (vectorOf m) (level v) n p allAxes) ∙ ap (dot n) (sym (all_three c)) ∙ h)))
+      subst (Combines (generators v m)) (sum-split c (vector_of m) (level v) all_axes ∙ sym (all_three c))
+      (combines-both (map (vector_of m) (only (level v) all_axes)) (sides_between m (remaining v)) _ _ (combines-map c (vector_of m) (only (level v) all_axes))
+      (combines-sides m c (remaining v) (sym (dot-total c (vector_of m) (level v) n p all_axes) ∙ ap (dot n) (sym (all_three c)) ∙ h)))
 
   -- and the generators lie in it
   is-level : (b : Bool) → T b → product b ≡ pos 0
@@ -161,21 +161,21 @@ module _ (v : Levels) (n : Vector) (m : Triangle) (p : Products v n m) where
   InFace g = dot n g ≡ pos 0
 
   abbrev AtOne : Axis → Type 0
-  AtOne k = dot n (vectorOf m k) ≡ pos 1
+  AtOne k = dot n (vector_of m k) ≡ pos 1
 
-  sides-in : (ks : List Axis) → Each AtOne ks → Each InFace (sidesBetween m ks)
+  sides-in : (ks : List Axis) → Each AtOne ks → Each InFace (sides_between m ks)
   sides-in [] h = tt
-  sides-in (k ∷ ks) h = each_both InFace (map (λ l. vectorOf m l ⊖ vectorOf m k) ks) (sidesBetween m ks) (each_map InFace (λ l. vectorOf m l ⊖ vectorOf m k) ks (each_of AtOne (λ l. InFace (vectorOf m l ⊖ vectorOf m k)) ks side h.1)) (sides-in ks h.1)
+  sides-in (k ∷ ks) h = each_both InFace (map (λ l. vector_of m l ⊖ vector_of m k) ks) (sides_between m ks) (each_map InFace (λ l. vector_of m l ⊖ vector_of m k) ks (each_of AtOne (λ l. InFace (vector_of m l ⊖ vector_of m k)) ks side h.1)) (sides-in ks h.1)
     where
-      side : (l : Axis) → AtOne l → InFace (vectorOf m l ⊖ vectorOf m k)
-      side l e = dot-difference n (vectorOf m l) (vectorOf m k) ∙ rw (e, h.0) refl
+      side : (l : Axis) → AtOne l → InFace (vector_of m l ⊖ vector_of m k)
+      side l e = dot-difference n (vector_of m l) (vector_of m k) ∙ rw (e, h.0) refl
 
   pub generators-in : Each InFace (generators v m)
   unfolding remaining
   generators-in =
-      each_both InFace (map (vectorOf m) (only (level v) allAxes)) (sidesBetween m (remaining v))
-      (each_map InFace (vectorOf m) (only (level v) allAxes) (each_of (λ k. T (level v k)) (λ k. InFace (vectorOf m k)) (only (level v) allAxes) (λ k t. p k ∙ is-level (level v k) t) (only-holds (level v) allAxes)))
-      (sides-in (remaining v) (each_of (λ k. T (not (level v k))) AtOne (remaining v) (λ k t. p k ∙ is-not (level v k) t) (only-holds (λ k. not (level v k)) allAxes)))
+      each_both InFace (map (vector_of m) (only (level v) all_axes)) (sides_between m (remaining v))
+      (each_map InFace (vector_of m) (only (level v) all_axes) (each_of (λ k. T (level v k)) (λ k. InFace (vector_of m k)) (only (level v) all_axes) (λ k t. p k ∙ is-level (level v k) t) (only-holds (level v) all_axes)))
+      (sides-in (remaining v) (each_of (λ k. T (not (level v k))) AtOne (remaining v) (λ k t. p k ∙ is-not (level v k) t) (only-holds (λ k. not (level v k)) all_axes)))
 
 -- ---- with no level axis: the sides from corner 0 are enough
 pub two-sides : (m : Triangle) (v : Vector) → Combines (generators (levels false false false) m) v → (c1 : ℤ) × (c2 : ℤ) × (v ≡ scale c1 (way m P01) ⊕ scale c2 (way m P02))

@@ -20,48 +20,48 @@ use Rattle.rules.specs.declared.Pick.TheVariants.{Accepted, Refused}
 use Rattle.rules.specs.Vectors.{origin}
 use Rattle.rules.specs.Solids.{between, permitted, look}
 use Rattle.rules.specs.Asked.{Asked, answered, refused}
-use Rattle.rules.specs.Walk.{Stop, stop, powers, pairs, only, remaining, takesPart, allLevel, Probe, Found, found}
-use Rattle.rules.specs.Pick.{isInside, acceptedAnswer, refusedAnswer}
-use Rattle.rules.specs.TwoCalls.{isReady, handed, readiness, walkOn, answerFrom, walkAnswer, walk_of}
+use Rattle.rules.specs.Walk.{Stop, stop, powers, pairs, only, remaining, takes_part, all_level, Probe, Found, found}
+use Rattle.rules.specs.Pick.{is_inside, accepted_answer, refused_answer}
+use Rattle.rules.specs.TwoCalls.{is_ready, handed, readiness, walk_on, answer_from, walk_answer, walk_of}
 use Rattle.laws.specs.Levels.{at-most-3, pairs-taking, some-remain}
 use Rattle.laws.specs.Says.{Says, Few, says-bind, says-test}
-use Rattle.laws.specs.Answered.{voxelsOf}
+use Rattle.laws.specs.Answered.{voxels_of}
 use Rattle.laws.specs.Powers.{few-powers, looks-add-up, three-most}
 use Rattle.laws.specs.PickRule.{Passed, judging-says}
-use Rattle.laws.specs.Rounds.{WalkRefusal, WalkFound, roundLooks, to-the-end-says}
-use Rattle.laws.specs.Answers.{steps_of, looksOf, foundOf, stopOf, CountedSays, answer-from-says}
+use Rattle.laws.specs.Rounds.{WalkRefusal, WalkFound, round_looks, to-the-end-says}
+use Rattle.laws.specs.Answers.{steps_of, looks_of, found_of, stop_of, CountedSays, answer-from-says}
 use Rattle.range.specs.Ranges.{between-naturals}
 
 -- ---- ready or not
 module _ (K : ℕ) (d : ReadyStart) where
   -- more than 2 + 6K looks, or all three axes level
   abbrev pub NotReady : Type 0
-  NotReady = (2 + 6 * K < d.looks) ⊎ T (allLevel d.level)
+  NotReady = (2 + 6 * K < d.looks) ⊎ T (all_level d.level)
 
-  pub ready-parts : T (isReady K d) → (d.looks ≤ 2 + 6 * K) × T (not (allLevel d.level))
-  unfolding isReady
+  pub ready-parts : T (is_ready K d) → (d.looks ≤ 2 + 6 * K) × T (not (all_level d.level))
+  unfolding is_ready
   ready-parts h = let k = and_yes (leb d.looks (2 + 6 * K)) _ h in (leb→le d.looks (2 + 6 * K) k.0, k.1)
 
-  pub not-ready : T (not (isReady K d)) → NotReady
-  unfolding isReady
-  not-ready h = go (leb d.looks (2 + 6 * K)) refl (allLevel d.level) refl h
+  pub not-ready : T (not (is_ready K d)) → NotReady
+  unfolding is_ready
+  not-ready h = go (leb d.looks (2 + 6 * K)) refl (all_level d.level) refl h
     where
-      go : (a : Bool) → leb d.looks (2 + 6 * K) ≡ a → (b : Bool) → allLevel d.level ≡ b → T (not (a && not b)) → NotReady
+      go : (a : Bool) → leb d.looks (2 + 6 * K) ≡ a → (b : Bool) → all_level d.level ≡ b → T (not (a && not b)) → NotReady
       go false e b f h = inl (nleb→lt d.looks (2 + 6 * K) (rw e tt))
       go true e true f h = inr (rw f tt)
       go true e false f h = absurd h
 
-  pub never-ready : NotReady → T (not (isReady K d))
-  unfolding isReady
-  never-ready n = go (isReady K d) refl
+  pub never-ready : NotReady → T (not (is_ready K d))
+  unfolding is_ready
+  never-ready n = go (is_ready K d) refl
     where
-      go : (b : Bool) → isReady K d ≡ b → T (not b)
+      go : (b : Bool) → is_ready K d ≡ b → T (not b)
       go false e = tt
       go true e = both n (ready-parts (rw e tt))
         where
-          both : NotReady → (d.looks ≤ 2 + 6 * K) × T (not (allLevel d.level)) → T (not true)
+          both : NotReady → (d.looks ≤ 2 + 6 * K) × T (not (all_level d.level)) → T (not true)
           both (inl l) k = absurd (omega (arith, l, k.0))
-          both (inr l) k = absurd (T_not (allLevel d.level) k.1 l)
+          both (inr l) k = absurd (T_not (all_level d.level) k.1 l)
 
 -- ---- over any look
 module _ (ok : Bool) (look : Vector → Look) (d : ReadyStart) (frame reach : ℤ) where
@@ -79,19 +79,19 @@ module _ (ok : Bool) (look : Vector → Look) (d : ReadyStart) (frame reach : �
   one-to-four : {number : ℕ} {a : Vector} → (1 ≤ number) × (number ≤ 4) → (HandedPassed → ⊥) → NotBegun (stop number a 0)
   one-to-four h n = (refl, inl (h, n))
 
-  readiness-says : Says (λ _ t. HandedPassed × T (isReady K d)) (λ r t. NotBegun r) (readiness look d frame reach ok)
+  readiness-says : Says (λ _ t. HandedPassed × T (is_ready K d)) (λ r t. NotBegun r) (readiness look d frame reach ok)
   unfolding readiness
   readiness-says =
       says-bind {G = λ r t. NotBegun r} _ _
       (judging-says ok (handed look d frame reach) d.start frame reach (record {
-        one = λ z. one-to-four (omega arith, omega arith) (λ h. T_not (between (pos 1) reach (pos 256)) z h.permittedReach);
-        two = λ z. one-to-four (omega arith, omega arith) (λ h. T_not (between (pos 0) frame (pos 7)) z h.permittedFrame);
-        three = λ z. one-to-four (omega arith, omega arith) (λ h. T_not ok z h.permittedSolid);
-        fourStart = λ z. one-to-four (omega arith, omega arith) (λ h. T_not (isInside (look d.start)) z h.startInside);
-        fourApex = λ z. one-to-four (omega arith, omega arith) (λ h. T_not (isInside (look d.apex)) z h.apexInside);
+        one = λ z. one-to-four (omega arith, omega arith) (λ h. T_not (between (pos 1) reach (pos 256)) z h.permitted_reach);
+        two = λ z. one-to-four (omega arith, omega arith) (λ h. T_not (between (pos 0) frame (pos 7)) z h.permitted_frame);
+        three = λ z. one-to-four (omega arith, omega arith) (λ h. T_not ok z h.permitted_solid);
+        four_start = λ z. one-to-four (omega arith, omega arith) (λ h. T_not (is_inside (look d.start)) z h.start_inside);
+        four_apex = λ z. one-to-four (omega arith, omega arith) (λ h. T_not (is_inside (look d.apex)) z h.apex_inside);
       }))
       (λ r t k. k)
-      (λ _ t h. says-test (isReady K d) _ (λ n. (refl, inr (refl, h.0, not-ready K d n))) (λ r. (h.0, r)))
+      (λ _ t h. says-test (is_ready K d) _ (λ n. (refl, inr (refl, h.0, not-ready K d n))) (λ r. (h.0, r)))
 
 -- ---- on a solid
 module _ (solid : Solid) (bytes : List ℕ) (d : ReadyStart) (frame reach : ℤ) where
@@ -112,67 +112,67 @@ module _ (solid : Solid) (bytes : List ℕ) (d : ReadyStart) (frame reach : ℤ)
 
   -- what the rounds and the end tell, with the looks that they took
   abbrev FoundOn : Found → List Vector → Type 0
-  FoundOn = Few (roundLooks c R d.level) (WalkFound c R d.level)
+  FoundOn = Few (round_looks c R d.level) (WalkFound c R d.level)
 
   abbrev StoppedOn : Stop → List Vector → Type 0
-  StoppedOn = Few (roundLooks c R d.level) (WalkRefusal c R d.level)
+  StoppedOn = Few (round_looks c R d.level) (WalkRefusal c R d.level)
 
   -- refused before the rounds with all counts zero; or what the rounds and the end tell, the looks counted on from those handed
   data Told (x : Pick) : Type 0 where
-    notBegun : (r : Stop) → NotBegunOn r → x ≡ Refused (refusedAnswer r 0) → Told x
-    begun : PassedOn → T (isReady k d) → CountedSays (λ t. d.looks + length t) FoundOn StoppedOn x → Told x
+    not_begun : (r : Stop) → NotBegunOn r → x ≡ Refused (refused_answer r 0) → Told x
+    begun : PassedOn → T (is_ready k d) → CountedSays (λ t. d.looks + length t) FoundOn StoppedOn x → Told x
 
   told : Told (walk_of solid bytes d frame reach)
-  unfolding walk_of walkAnswer walkOn
+  unfolding walk_of walk_answer walk_on
   told = go (readiness (look solid bytes) d frame reach (permitted solid bytes)) (readiness-says (permitted solid bytes) (look solid bytes) d frame reach)
     where
-      go : (x : Asked Stop (Unit {0})) → Says (λ _ t. PassedOn × T (isReady k d)) (λ r t. NotBegunOn r) x → Told (walkAnswer d.looks x (walkOn (look solid bytes) d frame reach))
+      go : (x : Asked Stop (Unit {0})) → Says (λ _ t. PassedOn × T (is_ready k d)) (λ r t. NotBegunOn r) x → Told (walk_answer d.looks x (walk_on (look solid bytes) d frame reach))
       go (answered _ t) s = begun s.of.0 s.of.1 (answer-from-says d.looks FoundOn StoppedOn _ (to-the-end-says c R d.level))
-      go (refused r t) s = notBegun r s.of refl
+      go (refused r t) s = not_begun r s.of refl
 
   -- ready: the rounds and the end, and nothing before them
-  pub ready-walks : PassedOn → T (isReady (length (powers (nat_abs reach))) d) → walk_of solid bytes d frame reach ≡ answerFrom d.looks (walkOn (look solid bytes) d frame reach)
-  unfolding walk_of walkAnswer
+  pub ready-walks : PassedOn → T (is_ready (length (powers (nat_abs reach))) d) → walk_of solid bytes d frame reach ≡ answer_from d.looks (walk_on (look solid bytes) d frame reach)
+  unfolding walk_of walk_answer
   ready-walks p r = go (readiness (look solid bytes) d frame reach (permitted solid bytes)) (readiness-says (permitted solid bytes) (look solid bytes) d frame reach)
     where
-      go : (x : Asked Stop (Unit {0})) → Says (λ _ t. PassedOn × T (isReady k d)) (λ r t. NotBegunOn r) x
-          → walkAnswer d.looks x (walkOn (look solid bytes) d frame reach) ≡ answerFrom d.looks (walkOn (look solid bytes) d frame reach)
+      go : (x : Asked Stop (Unit {0})) → Says (λ _ t. PassedOn × T (is_ready k d)) (λ r t. NotBegunOn r) x
+          → walk_answer d.looks x (walk_on (look solid bytes) d frame reach) ≡ answer_from d.looks (walk_on (look solid bytes) d frame reach)
       go (answered _ t) s = refl
       go (refused e t) s = absurd (begins s.of.1)
         where
           begins : (((1 ≤ e.number) × (e.number ≤ 4)) × (PassedOn → ⊥)) ⊎ ((e ≡ stop 13 origin 0) × PassedOn × NotReady k d) → ⊥
           begins (inl h) = h.1 p
-          begins (inr h) = T_not (isReady k d) (never-ready k d h.2) r
+          begins (inr h) = T_not (is_ready k d) (never-ready k d h.2) r
 
   -- 13, exactly where none of 1 to 4 is given and it is not ready
-  pub thirteen-when : PassedOn → NotReady (length (powers (nat_abs reach))) d → walk_of solid bytes d frame reach ≡ Refused (refusedAnswer (stop 13 origin 0) 0)
+  pub thirteen-when : PassedOn → NotReady (length (powers (nat_abs reach))) d → walk_of solid bytes d frame reach ≡ Refused (refused_answer (stop 13 origin 0) 0)
   thirteen-when p n = go told
     where
-      go : Told (walk_of solid bytes d frame reach) → walk_of solid bytes d frame reach ≡ Refused (refusedAnswer (stop 13 origin 0) 0)
-      go (notBegun r (z, inl h) e) = absurd (h.1 p)
-      go (notBegun r (z, inr h) e) = e ∙ ap (λ (r : Stop). Refused (refusedAnswer r 0)) h.0
-      go (begun q r h) = absurd (T_not (isReady k d) (never-ready k d n) r)
+      go : Told (walk_of solid bytes d frame reach) → walk_of solid bytes d frame reach ≡ Refused (refused_answer (stop 13 origin 0) 0)
+      go (not_begun r (z, inl h) e) = absurd (h.1 p)
+      go (not_begun r (z, inr h) e) = e ∙ ap (λ (r : Stop). Refused (refused_answer r 0)) h.0
+      go (begun q r h) = absurd (T_not (is_ready k d) (never-ready k d n) r)
 
   -- an accepted walk
-  pub walk-accepted : (a : AcceptedPick) → walk_of solid bytes d frame reach ≡ Accepted a → PassedOn × WalkFound (handed (look solid bytes) d frame reach) (nat_abs reach) d.level (foundOf a)
+  pub walk-accepted : (a : AcceptedPick) → walk_of solid bytes d frame reach ≡ Accepted a → PassedOn × WalkFound (handed (look solid bytes) d frame reach) (nat_abs reach) d.level (found_of a)
   walk-accepted a is = go (subst Told is told)
     where
-      go : Told (Accepted a) → PassedOn × WalkFound c R d.level (foundOf a)
-      go (notBegun r h e) = absurd (let z : ◌≡◌ {A = ℕ} 0 1 = cc in omega arith)
+      go : Told (Accepted a) → PassedOn × WalkFound c R d.level (found_of a)
+      go (not_begun r h e) = absurd (let z : ◌≡◌ {A = ℕ} 0 1 = cc in omega arith)
       go (begun p r h) = (p, h.1.holds)
 
   -- a refused one: before the rounds, with no look, or in them
-  pub walk_refused : (r : RefusedPick) → walk_of solid bytes d frame reach ≡ Refused r → (NotBegunOn (stopOf r) × (r.looks ≡ 0)) ⊎ WalkRefusal (handed (look solid bytes) d frame reach) (nat_abs reach) d.level (stopOf r)
+  pub walk_refused : (r : RefusedPick) → walk_of solid bytes d frame reach ≡ Refused r → (NotBegunOn (stop_of r) × (r.looks ≡ 0)) ⊎ WalkRefusal (handed (look solid bytes) d frame reach) (nat_abs reach) d.level (stop_of r)
   walk_refused r is = go (subst Told is told)
     where
-      go : Told (Refused r) → (NotBegunOn (stopOf r) × (r.looks ≡ 0)) ⊎ WalkRefusal c R d.level (stopOf r)
-      go (notBegun e h i) = let same : r ≡ refusedAnswer e 0 = cc i in inl (rw same (h, refl))
+      go : Told (Refused r) → (NotBegunOn (stop_of r) × (r.looks ≡ 0)) ⊎ WalkRefusal c R d.level (stop_of r)
+      go (not_begun e h i) = let same : r ≡ refused_answer e 0 = cc i in inl (rw same (h, refl))
       go (begun p t h) = inr h.1.holds
 
   pub thirteen-only : (r : RefusedPick) → walk_of solid bytes d frame reach ≡ Refused r → r.number ≡ 13 → PassedOn × NotReady (length (powers (nat_abs reach))) d
   thirteen-only r is e = go (walk_refused r is)
     where
-      go : (NotBegunOn (stopOf r) × (r.looks ≡ 0)) ⊎ WalkRefusal c R d.level (stopOf r) → PassedOn × NotReady k d
+      go : (NotBegunOn (stop_of r) × (r.looks ≡ 0)) ⊎ WalkRefusal c R d.level (stop_of r) → PassedOn × NotReady k d
       go (inl ((z, inl h), l)) = absurd (omega (arith, h.0.1, e))
       go (inl ((z, inr h), l)) = (h.1, h.2)
       go (inr h) = absurd (omega (arith, h.known.1, e))
@@ -183,46 +183,46 @@ module _ (solid : Solid) (bytes : List ℕ) (d : ReadyStart) (frame reach : ℤ)
   few-steps = go (walk_of solid bytes d frame reach) told
     where
       go : (x : Pick) → Told x → steps_of x ≤ R - length (remaining d.level)
-      go x (notBegun r h e) = rw e (omega (arith, h.0))
-      go (Accepted a) (begun p r h) = let w = h.1.holds in rw (ap (λ (f : Found). f.steps) w.is) w.end.fewSteps.allowed
-      go (Refused e) (begun p r h) = h.1.holds.fewSteps.allowed
+      go x (not_begun r h e) = rw e (omega (arith, h.0))
+      go (Accepted a) (begun p r h) = let w = h.1.holds in rw (ap (λ (f : Found). f.steps) w.is) w.end.few_steps.allowed
+      go (Refused e) (begun p r h) = h.1.holds.few_steps.allowed
 
-  pub few-looks : looksOf (walk_of solid bytes d frame reach) ≤ d.looks + roundLooks (handed (look solid bytes) d frame reach) (nat_abs reach) d.level
+  pub few-looks : looks_of (walk_of solid bytes d frame reach) ≤ d.looks + round_looks (handed (look solid bytes) d frame reach) (nat_abs reach) d.level
   few-looks = go (walk_of solid bytes d frame reach) told
     where
-      go : (x : Pick) → Told x → looksOf x ≤ d.looks + roundLooks c R d.level
-      go x (notBegun r h e) = rw e (omega arith)
+      go : (x : Pick) → Told x → looks_of x ≤ d.looks + round_looks c R d.level
+      go x (not_begun r h e) = rw e (omega arith)
       go (Accepted a) (begun p r h) = omega (arith, h.1.few, h.2)
       go (Refused e) (begun p r h) = omega (arith, h.1.few, h.2)
 
   -- with at most 2 + 6K looks handed
-  pub most-looks : (N : ℕ) → (nat_abs reach ≤ 256 → 2 + length (powers (nat_abs reach)) * (6 * max (nat_abs reach) 3 - 6) ≤ N) → looksOf (walk_of solid bytes d frame reach) ≤ N
+  pub most-looks : (N : ℕ) → (nat_abs reach ≤ 256 → 2 + length (powers (nat_abs reach)) * (6 * max (nat_abs reach) 3 - 6) ≤ N) → looks_of (walk_of solid bytes d frame reach) ≤ N
   most-looks N enough = go told
     where
       r : ℕ
       r = length (remaining d.level)
 
       p : ℕ
-      p = length (only (takesPart d.level) pairs)
+      p = length (only (takes_part d.level) pairs)
 
-      go : Told (walk_of solid bytes d frame reach) → looksOf (walk_of solid bytes d frame reach) ≤ N
-      go (notBegun e h i) = rw i (omega arith)
+      go : Told (walk_of solid bytes d frame reach) → looks_of (walk_of solid bytes d frame reach) ≤ N
+      go (not_begun e h i) = rw i (omega arith)
       go (begun passed ready h) =
           let parts = ready-parts k d ready in
           let M = max R 3 in
           let three : 6 - r + p * suc (R - r) ≤ 6 * M - 9 = rw (pairs-taking d.level) (three-most r R M (some-remain d.level parts.1) (at-most-3 d.level) (omega arith) (omega arith)) in
           let most : 6 - 0 + p * suc (R - r) ≤ 6 * M - 6 = omega (arith, three, at-most-3 d.level) in
-          let all = looks-add-up k 0 p (R - r) d.looks (roundLooks c R d.level) (omega arith) (omega (arith, parts.0)) (NatL.le_refl _) in
-          omega (arith, few-looks, all, NatL.mul-le-mul_left k most, enough (between-naturals 1 256 reach passed.permittedReach).1)
+          let all = looks-add-up k 0 p (R - r) d.looks (round_looks c R d.level) (omega arith) (omega (arith, parts.0)) (NatL.le_refl _) in
+          omega (arith, few-looks, all, NatL.mul-le-mul_left k most, enough (between-naturals 1 256 reach passed.permitted_reach).1)
 
-  pub most-looks-13772 : looksOf (walk_of solid bytes d frame reach) ≤ 13772
+  pub most-looks-13772 : looks_of (walk_of solid bytes d frame reach) ≤ 13772
   most-looks-13772 = most-looks 13772 (λ h. let l : 6 * max R 3 - 6 ≤ 1530 = omega (arith, h) in omega (arith, NatL.mul-le-mul (few-powers R h) l))
 
 -- an accepted record is what the rounds and the end answered
-pub accepted-walk : (n : ℕ) (x : Asked Stop (Unit {0})) (y : Asked Stop Found) {a : AcceptedPick} → walkAnswer n x y ≡ Accepted a → (y ≡ answered (foundOf a) (voxelsOf y)) × (a.looks ≡ n + length (voxelsOf y))
-unfolding walkAnswer answerFrom
+pub accepted-walk : (n : ℕ) (x : Asked Stop (Unit {0})) (y : Asked Stop Found) {a : AcceptedPick} → walk_answer n x y ≡ Accepted a → (y ≡ answered (found_of a) (voxels_of y)) × (a.looks ≡ n + length (voxels_of y))
+unfolding walk_answer answer_from
 accepted-walk n (answered _ t) (answered f u) {a} e =
-    let is : acceptedAnswer f (n + length u) ≡ a = cc in
-    (ap (λ (a : AcceptedPick). answered (foundOf a) u) is, ap (λ (a : AcceptedPick). a.looks) (sym is))
+    let is : accepted_answer f (n + length u) ≡ a = cc in
+    (ap (λ (a : AcceptedPick). answered (found_of a) u) is, ap (λ (a : AcceptedPick). a.looks) (sym is))
 accepted-walk n (answered _ t) (refused r u) e = absurd (let z : ◌≡◌ {A = ℕ} 0 1 = cc in omega arith)
 accepted-walk n (refused r t) y e = absurd (let z : ◌≡◌ {A = ℕ} 0 1 = cc in omega arith)

@@ -8,8 +8,8 @@ use Rattle.rules.specs.declared.Vector.{Vector}
 use Rattle.rules.specs.declared.Levels.{Levels}
 use Rattle.rules.specs.declared.Pair.{Pair}
 use Rattle.rules.specs.declared.Pair.TheVariants.{P01, P02, P10, P12, P20, P21}
-use Rattle.rules.specs.Walk.{Axis, axis0, axis1, axis2, pairs, from, to, levels, level, allLevel, keep, only, remaining, takesPart, unlessLevel, levelled}
-use Rattle.rules.specs.Lean.{is_zero, levelsOf}
+use Rattle.rules.specs.Walk.{Axis, axis0, axis1, axis2, pairs, from, to, levels, level, all_level, keep, only, remaining, takes_part, unless_level, levelled}
+use Rattle.rules.specs.Lean.{is_zero, levels_of}
 use Rattle.laws.specs.Parts.{part}
 
 -- ---- how many axes remain, and how many pairs take part: tests over all flags
@@ -17,12 +17,12 @@ every : (f : Bool → Bool) → T (f true && f false) → (b : Bool) → T (f b)
 every f h true = (and_yes (f true) (f false) h).0
 every f h false = (and_yes (f true) (f false) h).1
 
-unfoldable pub eachWay : (Bool → Bool) → Bool
-eachWay f = f true && f false
+unfoldable pub each_way : (Bool → Bool) → Bool
+each_way f = f true && f false
 
-pub every-levels : (test : Levels → Bool) → T (eachWay (λ a. eachWay (λ b. eachWay (λ c. test (levels a b c))))) → (v : Levels) → T (test v)
-unfolding eachWay
-every-levels test h v = every (λ c. test (levels v.x v.y c)) (every (λ b. eachWay (λ c. test (levels v.x b c))) (every (λ a. eachWay (λ b. eachWay (λ c. test (levels a b c)))) h v.x) v.y) v.z
+pub every-levels : (test : Levels → Bool) → T (each_way (λ a. each_way (λ b. each_way (λ c. test (levels a b c))))) → (v : Levels) → T (test v)
+unfolding each_way
+every-levels test h v = every (λ c. test (levels v.x v.y c)) (every (λ b. each_way (λ c. test (levels v.x b c))) (every (λ a. each_way (λ b. each_way (λ c. test (levels a b c)))) h v.x) v.y) v.z
 
 -- 1 of an axis that remains
 abbrev pub remains : Bool → ℕ
@@ -39,37 +39,37 @@ unfolding remaining only
 remaining-count v = omega (arith, keep-length v.x axis0 (keep (not v.y) axis1 (keep (not v.z) axis2 [])), keep-length v.y axis1 (keep (not v.z) axis2 []), keep-length v.z axis2 [])
 
 pub at-most-3 : (v : Levels) → length (remaining v) ≤ 3
-unfolding eachWay remaining only keep
+unfolding each_way remaining only keep
 at-most-3 v = leb→le _ 3 (every-levels (λ v. leb (length (remaining v)) 3) tt v)
 
 -- with r axes r(r - 1) pairs
-pub pairs-taking : (v : Levels) → length (only (takesPart v) pairs) ≡ length (remaining v) * (length (remaining v) - 1)
-unfolding eachWay remaining takesPart only keep
-pairs-taking v = eqb→eq _ _ (every-levels (λ v. eqb (length (only (takesPart v) pairs)) (length (remaining v) * (length (remaining v) - 1))) tt v)
+pub pairs-taking : (v : Levels) → length (only (takes_part v) pairs) ≡ length (remaining v) * (length (remaining v) - 1)
+unfolding each_way remaining takes_part only keep
+pairs-taking v = eqb→eq _ _ (every-levels (λ v. eqb (length (only (takes_part v) pairs)) (length (remaining v) * (length (remaining v) - 1))) tt v)
 
-pub some-remain : (v : Levels) → T (not (allLevel v)) → 1 ≤ length (remaining v)
-unfolding eachWay remaining only keep allLevel
-some-remain v h = go (allLevel v) h (every-levels (λ v. allLevel v || leb 1 (length (remaining v))) tt v)
+pub some-remain : (v : Levels) → T (not (all_level v)) → 1 ≤ length (remaining v)
+unfolding each_way remaining only keep all_level
+some-remain v h = go (all_level v) h (every-levels (λ v. all_level v || leb 1 (length (remaining v))) tt v)
   where
     go : (b : Bool) → T (not b) → T (b || leb 1 (length (remaining v))) → 1 ≤ length (remaining v)
     go true h k = absurd h
     go false h k = leb→le 1 _ k
 
 -- the axes of a pair that takes part remain
-pub from-remains : (v : Levels) (x : Pair) → T (takesPart v x) → T (not (level v (from x)))
-unfolding takesPart
+pub from-remains : (v : Levels) (x : Pair) → T (takes_part v x) → T (not (level v (from x)))
+unfolding takes_part
 from-remains v x t = (and_yes (not (level v (from x))) (not (level v (to x))) t).0
 
-pub to-remains : (v : Levels) (x : Pair) → T (takesPart v x) → T (not (level v (to x)))
-unfolding takesPart
+pub to-remains : (v : Levels) (x : Pair) → T (takes_part v x) → T (not (level v (to x)))
+unfolding takes_part
 to-remains v x t = (and_yes (not (level v (from x))) (not (level v (to x))) t).1
 
 -- so there are two of them
-hasTwo : Pair → Levels → Bool
-hasTwo x v = not (takesPart v x) || leb 2 (length (remaining v))
+has_two : Pair → Levels → Bool
+has_two x v = not (takes_part v x) || leb 2 (length (remaining v))
 
-two-each : (x : Pair) → T (eachWay (λ a. eachWay (λ b. eachWay (λ c. hasTwo x (levels a b c)))))
-unfolding eachWay hasTwo remaining takesPart only keep
+two-each : (x : Pair) → T (each_way (λ a. each_way (λ b. each_way (λ c. has_two x (levels a b c)))))
+unfolding each_way has_two remaining takes_part only keep
 two-each P01 = tt
 two-each P02 = tt
 two-each P10 = tt
@@ -77,9 +77,9 @@ two-each P12 = tt
 two-each P20 = tt
 two-each P21 = tt
 
-pub two-remain : (v : Levels) (x : Pair) → T (takesPart v x) → 2 ≤ length (remaining v)
-unfolding hasTwo
-two-remain v x t = go (takesPart v x) t (every-levels (hasTwo x) (two-each x) v)
+pub two-remain : (v : Levels) (x : Pair) → T (takes_part v x) → 2 ≤ length (remaining v)
+unfolding has_two
+two-remain v x t = go (takes_part v x) t (every-levels (has_two x) (two-each x) v)
   where
     go : (b : Bool) → T b → T (not b || leb 2 (length (remaining v))) → 2 ≤ length (remaining v)
     go true t k = leb→le 2 _ k
@@ -101,7 +101,7 @@ above_zero (pos zero) h = absurd (omega (arith, parts, h))
 above_zero (pos (suc k)) h = refl
 above_zero (negsuc k) h = absurd h.le
 
-pub levels-of : (n : Vector) (k : Axis) → level (levelsOf n) k ≡ is_zero (part k n)
+pub levels-of : (n : Vector) (k : Axis) → level (levels_of n) k ≡ is_zero (part k n)
 levels-of n axis0 = refl
 levels-of n axis1 = refl
 levels-of n axis2 = refl
@@ -110,21 +110,21 @@ levels-of n axis2 = refl
 pub levels-eq : {v w : Levels} → ((k : Axis) → level v k ≡ level w k) → v ≡ w
 levels-eq h = λ i. record { x = h axis0 i; y = h axis1 i; z = h axis2 i }
 
-pub part-levelled : (v : Levels) (n : Vector) (k : Axis) → part k (levelled v n) ≡ unlessLevel (level v k) (part k n)
+pub part-levelled : (v : Levels) (n : Vector) (k : Axis) → part k (levelled v n) ≡ unless_level (level v k) (part k n)
 unfolding levelled
 part-levelled v n axis0 = refl
 part-levelled v n axis1 = refl
 part-levelled v n axis2 = refl
 
 -- ---- where all are level, each is; else there is a lowest that remains
-pub all-level : (v : Levels) → T (allLevel v) → (k : Axis) → T (level v k)
-unfolding allLevel
+pub all-level : (v : Levels) → T (all_level v) → (k : Axis) → T (level v k)
+unfolding all_level
 all-level v h axis0 = (and_yes v.x (v.y && v.z) h).0
 all-level v h axis1 = (and_yes v.y v.z (and_yes v.x (v.y && v.z) h).1).0
 all-level v h axis2 = (and_yes v.y v.z (and_yes v.x (v.y && v.z) h).1).1
 
-pub lowest : (v : Levels) → T (not (allLevel v)) → (k : Axis) × T (not (level v k))
-unfolding allLevel
+pub lowest : (v : Levels) → T (not (all_level v)) → (k : Axis) × T (not (level v k))
+unfolding all_level
 lowest v h = go v.x v.y v.z refl refl refl h
   where
     is-not : {b : Bool} → b ≡ false → T (not b)

@@ -16,7 +16,7 @@ use Rattle.rules.specs.declared.Pair.{Pair}
 use Rattle.rules.specs.declared.Choice.{Choice}
 use Rattle.rules.specs.Vectors.{◌⊕◌, scale, lay}
 use Rattle.rules.specs.Asked.{answered, refused}
-use Rattle.rules.specs.Walk.{seen, Probe, lookAt, fallsAt, falls, falling, round, way, keep, choice}
+use Rattle.rules.specs.Walk.{seen, Probe, look_at, falls_at, falls, falling, round, way, keep, choice}
 use Rattle.laws.specs.Tests.{In}
 use Rattle.laws.specs.Says.{Says, Few, says-answer, says-weaker, says-itself, few-bind, few-fewer, says_map}
 
@@ -30,8 +30,8 @@ module _ (c : Probe) where
   IsOutside p = c.look p ≡ Outside
 
   -- the voxel is the only one looked at, or it is outside
-  pub look-says : (p : Vector) → Says (λ b t. (c.look p ≡ As b) × (t ≡ p ∷ [])) (λ r t. (r ≡ p) × IsOutside p × (t ≡ [])) (lookAt c.look p)
-  unfolding lookAt seen
+  pub look-says : (p : Vector) → Says (λ b t. (c.look p ≡ As b) × (t ≡ p ∷ [])) (λ r t. (r ≡ p) × IsOutside p × (t ≡ [])) (look_at c.look p)
+  unfolding look_at seen
   look-says p = go (c.look p) refl
     where
       go : (x : Look) → c.look p ≡ x → Says (λ b t. (c.look p ≡ As b) × (t ≡ p ∷ [])) (λ r t. (r ≡ p) × IsOutside p × (t ≡ [])) (seen x p)
@@ -53,29 +53,29 @@ module _ (c : Probe) where
   -- p is u at one of these powers, and outside
   pub record Beyond (u : Vector) (ls : List ℕ) (p : Vector) : Type 0 where
     pub power : ℕ
-    pub isPower : In power ls
+    pub is_power : In power ls
     pub is : p ≡ along u power
     pub outside : IsOutside p
 
-  falls-found : (u : Vector) (ls : List ℕ) → Says (Few (length ls) (FellAt u ls)) (Few (length ls) (Beyond u ls)) (fallsAt c.look c.apex u ls)
-  unfolding fallsAt
+  falls-found : (u : Vector) (ls : List ℕ) → Says (Few (length ls) (FellAt u ls)) (Few (length ls) (Beyond u ls)) (falls_at c.look c.apex u ls)
+  unfolding falls_at
   falls-found u [] = says-answer (record { holds = tt; few = omega arith })
   falls-found u (l ∷ ls) =
       few-fewer _ (omega arith)
       (few-bind {M = 1} {N = length ls} _ _ (says-weaker _ (λ b t h. record { holds = h.0; few = rw h.1 (omega arith) }) here (look-says (along u l))) (λ b e. go b e (falls-found u ls)))
     where
       here : (p : Vector) (t : List Vector) → (p ≡ along u l) × IsOutside (along u l) × (t ≡ []) → Few 1 (Beyond u (l ∷ ls)) p t
-      here p t h = record { holds = record { power = l; isPower = inl refl; is = h.0; outside = rw h.0 h.1 }; few = rw h.2 (omega arith) }
+      here p t h = record { holds = record { power = l; is_power = inl refl; is = h.0; outside = rw h.0 h.1 }; few = rw h.2 (omega arith) }
 
       later : (b : Bool) → c.look (along u l) ≡ Empty → FellAt u ls b → FellAt u (l ∷ ls) b
       later true e f = inr (e, f)
       later false e f = (e, f)
 
       further : (p : Vector) → Beyond u ls p → Beyond u (l ∷ ls) p
-      further p h = record { power = h.power; isPower = inr h.isPower; is = h.is; outside = h.outside }
+      further p h = record { power = h.power; is_power = inr h.is_power; is = h.is; outside = h.outside }
 
-      go : (b : Bool) → c.look (along u l) ≡ As b → Says (Few (length ls) (FellAt u ls)) (Few (length ls) (Beyond u ls)) (fallsAt c.look c.apex u ls)
-          → Says (Few (length ls) (FellAt u (l ∷ ls))) (Few (length ls) (Beyond u (l ∷ ls))) (elim b [ true ↦ answered true [] | false ↦ fallsAt c.look c.apex u ls ])
+      go : (b : Bool) → c.look (along u l) ≡ As b → Says (Few (length ls) (FellAt u ls)) (Few (length ls) (Beyond u ls)) (falls_at c.look c.apex u ls)
+          → Says (Few (length ls) (FellAt u (l ∷ ls))) (Few (length ls) (Beyond u (l ∷ ls))) (elim b [ true ↦ answered true [] | false ↦ falls_at c.look c.apex u ls ])
       go true e r = says-answer (record { holds = inl e; few = omega arith })
       go false e r = says-weaker _ (λ b t f. record { holds = later b e f.holds; few = f.few }) (λ p t f. record { holds = further p f.holds; few = f.few }) r
 

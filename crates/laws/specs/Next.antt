@@ -9,7 +9,7 @@ use Rattle.rules.specs.declared.Pair.{Pair}
 use Rattle.rules.specs.declared.Choice.TheVariants.{Chosen}
 use Rattle.rules.specs.Vectors.{◌⊕◌, minus, scale, lay}
 use Rattle.rules.specs.Asked.{answered, refused}
-use Rattle.rules.specs.Walk.{Stop, Probe, Axis, axis0, axis1, axis2, unit, units, pairs, way, step, level, only, takesPart, falls, isLevel}
+use Rattle.rules.specs.Walk.{Stop, Probe, Axis, axis0, axis1, axis2, unit, units, pairs, way, step, level, only, takes_part, falls, is_level}
 use Rattle.laws.specs.Tests.{In}
 use Rattle.laws.specs.Looks.{Fell, FellOf, Stopped, StoppedOf, RoundOf}
 
@@ -26,7 +26,7 @@ earlier axis2 k = false
 module _ (c : Probe) where
   -- each axis was asked, and v has those that are level
   abbrev pub LevelsAnswered : Levels → Type 0
-  LevelsAnswered v = (k : Axis) → (voxels : List Vector) × (isLevel c (unit k) ≡ answered (level v k) voxels)
+  LevelsAnswered v = (k : Axis) → (voxels : List Vector) × (is_level c (unit k) ≡ answered (level v k) voxels)
 
   -- the triangle that the walk of the pairs ps has reached after n steps, each by the pair that a round chose
   abbrev pub Reached : List Pair → ℕ → Triangle → Type 0
@@ -35,7 +35,7 @@ module _ (c : Probe) where
 
   -- the axes before k were asked, and none was refused
   abbrev pub EarlierAnswered : Axis → Type 0
-  EarlierAnswered k = (j : Axis) → T (earlier j k) → (b : Bool) × (voxels : List Vector) × (isLevel c (unit j) ≡ answered b voxels)
+  EarlierAnswered k = (j : Axis) → T (earlier j k) → (b : Bool) × (voxels : List Vector) × (is_level c (unit j) ≡ answered b voxels)
 
   -- the pair x is one of ps, and of those before it these fell and the others did not
   pub record TurnOf (ps : List Pair) (m : Triangle) (x : Pair) : Type 0 where
@@ -48,7 +48,7 @@ module _ (c : Probe) where
   pub data Question (n : ℕ) (u : Vector) : Type 0 where
     downward : (k : Axis) → n ≡ 0 → EarlierAnswered k → u ≡ minus (unit k) → Question n u
     opposite : (k : Axis) → n ≡ 0 → EarlierAnswered k → Fell c (minus (unit k)) false → u ≡ unit k → Question n u
-    sideways : (v : Levels) → LevelsAnswered v → (m : Triangle) → Reached (only (takesPart v) pairs) n m → (x : Pair) → TurnOf (only (takesPart v) pairs) m x → u ≡ way m x → Question n u
+    sideways : (v : Levels) → LevelsAnswered v → (m : Triangle) → Reached (only (takes_part v) pairs) n m → (x : Pair) → TurnOf (only (takes_part v) pairs) m x → u ≡ way m x → Question n u
 
   pub turn-of : {ps : List Pair} {m : Triangle} {p : Vector} (o : StoppedOf c m ps p) → TurnOf ps m o.pair
   turn-of o = record { before = o.before; behind = o.behind; split = o.split; fell = o.fell }
@@ -59,9 +59,9 @@ module _ (c : Probe) where
     pub voxels : List Vector
     pub stops : falls c (lay c.signs vector) ≡ refused r.place voxels
     pub power : ℕ
-    pub isPower : In power c.powers
+    pub is_power : In power c.powers
     pub is : r.place ≡ c.apex ⊕ scale (pos power) (lay c.signs vector)
     pub outside : c.look r.place ≡ Outside
 
   pub next-look : {r : Stop} (u : Vector) → Question r.steps u → Stopped c u r.place → NextLook r
-  next-look u a h = record { vector = u; question = a; voxels = h.voxels; stops = h.is; power = h.beyond.power; isPower = h.beyond.isPower; is = h.beyond.is; outside = h.beyond.outside }
+  next-look u a h = record { vector = u; question = a; voxels = h.voxels; stops = h.is; power = h.beyond.power; is_power = h.beyond.is_power; is = h.beyond.is; outside = h.beyond.outside }

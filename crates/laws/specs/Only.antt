@@ -9,7 +9,7 @@ use Rattle.std.proofs.Math.Dec.{T}
 use Rattle.rules.specs.declared.Levels.{Levels}
 use Rattle.rules.specs.declared.Pair.{Pair}
 use Rattle.rules.specs.declared.Pair.TheVariants.{P01, P02, P10, P12, P20, P21}
-use Rattle.rules.specs.Walk.{pairs, keep, only, takesPart}
+use Rattle.rules.specs.Walk.{pairs, keep, only, takes_part}
 use Rattle.laws.specs.Tests.{Each, In}
 
 module _ {A : Type 0} where
@@ -102,5 +102,5 @@ pair-in P20 = inr (inr (inr (inr (inl refl))))
 pair-in P21 = inr (inr (inr (inr (inr (inl refl)))))
 
 -- so of each pair that takes part
-pub taking-in : (v : Levels) (x : Pair) → T (takesPart v x) → In x (only (takesPart v) pairs)
-taking-in v x = in-only (takesPart v) x pairs (pair-in x)
+pub taking-in : (v : Levels) (x : Pair) → T (takes_part v x) → In x (only (takes_part v) pairs)
+taking-in v x = in-only (takes_part v) x pairs (pair-in x)

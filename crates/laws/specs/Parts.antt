@@ -56,17 +56,17 @@ difference-turned a b = vector-by-parts (λ k. simp (part-difference, part-minus
 
 -- P of each part
 pub record Parts (P : ℤ → Type 0) (a : Vector) : Type 0 where
-  pub ofX : P a.x
-  pub ofY : P a.y
+  pub of_x : P a.x
+  pub of_y : P a.y
   pub of_z : P a.z
 
 pub part_of : {P : ℤ → Type 0} {a : Vector} → Parts P a → (k : Axis) → P (part k a)
-part_of h axis0 = h.ofX
-part_of h axis1 = h.ofY
+part_of h axis0 = h.of_x
+part_of h axis1 = h.of_y
 part_of h axis2 = h.of_z
 
 pub parts-by : (P : ℤ → Type 0) (a : Vector) → ((k : Axis) → P (part k a)) → Parts P a
-parts-by P a h = record { ofX = h axis0; ofY = h axis1; of_z = h axis2 }
+parts-by P a h = record { of_x = h axis0; of_y = h axis1; of_z = h axis2 }
 
 pub vector-eq : {a b : Vector} → a.x ≡ b.x → a.y ≡ b.y → a.z ≡ b.z → a ≡ b
 vector-eq p q r = λ i. record { x = p i; y = q i; z = r i }

@@ -7,7 +7,7 @@ use Rattle.rules.specs.declared.Look.{Look}
 use Rattle.rules.specs.declared.Levels.{Levels}
 use Rattle.rules.specs.declared.Triangle.{Triangle}
 use Rattle.rules.specs.Asked.{answered}
-use Rattle.rules.specs.Walk.{Axis, axis0, axis1, axis2, unit, levels, level, Probe, Found, facing, isLevel, axes, start, rounds, found, end, toTheEnd}
+use Rattle.rules.specs.Walk.{Axis, axis0, axis1, axis2, unit, levels, level, Probe, Found, facing, is_level, axes, start, rounds, found, end, to_the_end}
 use Rattle.rules.specs.Pick.{probe, judging, check, pick}
 use Rattle.laws.specs.Answered.{Among, among-more, both-answered, ensured-answered}
 
@@ -15,7 +15,7 @@ module _ (c : Probe) where
   -- an axis's question
   pub record AxisPart (v : Levels) (t : List Vector) (k : Axis) : Type 0 where
     pub voxels : List Vector
-    pub is : isLevel c (unit k) ≡ answered (level v k) voxels
+    pub is : is_level c (unit k) ≡ answered (level v k) voxels
     pub among : Among voxels t
 
   axis-among : {v : Levels} {t u : List Vector} {k : Axis} → Among t u → AxisPart v t k → AxisPart v u k
@@ -24,13 +24,13 @@ module _ (c : Probe) where
   axes-parts : {v : Levels} {t : List Vector} → axes c ≡ answered v t → (k : Axis) → AxisPart v t k
   unfolding axes
   axes-parts {v} {t} e =
-      let a = both-answered (isLevel c (unit axis0)) _ e in
-      let b = both-answered (isLevel c (unit axis1)) _ a.second in
-      let d = both-answered (isLevel c (unit axis2)) _ b.second in
+      let a = both-answered (is_level c (unit axis0)) _ e in
+      let b = both-answered (is_level c (unit axis1)) _ a.second in
+      let d = both-answered (is_level c (unit axis2)) _ b.second in
       let is : levels a.answer b.answer d.answer ≡ v = let h = (ensured-answered _ _ _ d.second).1 in cc in
-      along (record { voxels = a.front; is = a.first ∙ ap (λ (v : Levels). answered (level v axis0) a.front) is; among = a.firstAmong })
-      (record { voxels = b.front; is = b.first ∙ ap (λ (v : Levels). answered (level v axis1) b.front) is; among = among-more b.firstAmong a.secondAmong })
-      (record { voxels = d.front; is = d.first ∙ ap (λ (v : Levels). answered (level v axis2) d.front) is; among = among-more d.firstAmong (among-more b.secondAmong a.secondAmong) })
+      along (record { voxels = a.front; is = a.first ∙ ap (λ (v : Levels). answered (level v axis0) a.front) is; among = a.first_among })
+      (record { voxels = b.front; is = b.first ∙ ap (λ (v : Levels). answered (level v axis1) b.front) is; among = among-more b.first_among a.second_among })
+      (record { voxels = d.front; is = d.first ∙ ap (λ (v : Levels). answered (level v axis2) d.front) is; among = among-more d.first_among (among-more b.second_among a.second_among) })
     where
       along : AxisPart v t axis0 → AxisPart v t axis1 → AxisPart v t axis2 → (k : Axis) → AxisPart v t k
       along x y z axis0 = x
@@ -39,7 +39,7 @@ module _ (c : Probe) where
 
   start-parts : (p : Vector) {v : Levels} {t : List Vector} → start c p ≡ answered v t → (k : Axis) → AxisPart v t k
   unfolding start
-  start-parts p e k = let a = both-answered (facing c p) _ e in axis-among a.secondAmong (axes-parts a.second k)
+  start-parts p e k = let a = both-answered (facing c p) _ e in axis-among a.second_among (axes-parts a.second k)
 
   -- the walk's end, and what it found
   pub record WalkPart (R : ℕ) (v : Levels) (f : Found) (t : List Vector) : Type 0 where
@@ -52,12 +52,12 @@ module _ (c : Probe) where
   walk-among : {R : ℕ} {v : Levels} {f : Found} {t u : List Vector} → Among t u → WalkPart R v f t → WalkPart R v f u
   walk-among a h = record { end = h.end; voxels = h.voxels; walked = h.walked; among = among-more h.among a; is = h.is }
 
-  pub walk-part : (R : ℕ) (v : Levels) {f : Found} {t : List Vector} → toTheEnd c R v ≡ answered f t → WalkPart R v f t
+  pub walk-part : (R : ℕ) (v : Levels) {f : Found} {t : List Vector} → to_the_end c R v ≡ answered f t → WalkPart R v f t
   unfolding end
   walk-part R v e =
       let a = both-answered (rounds c R v) _ e in
       let h = (ensured-answered _ _ _ a.second).1 in
-      record { end = a.answer; voxels = a.front; walked = a.first; among = a.firstAmong; is = cc }
+      record { end = a.answer; voxels = a.front; walked = a.first; among = a.first_among; is = cc }
 
   pub record PickParts (R : ℕ) (f : Found) (t : List Vector) : Type 0 where
     pub levels : Levels
@@ -72,6 +72,6 @@ pick-parts ok look p frame reach e =
     let a = both-answered (judging ok c p frame reach) _ b.first in
     record {
       levels = b.answer;
-      axis = λ k. axis-among c b.firstAmong (axis-among c a.secondAmong (start-parts c p a.second k));
-      walk = walk-among c b.secondAmong (walk-part c (nat_abs reach) b.answer b.second);
+      axis = λ k. axis-among c b.first_among (axis-among c a.second_among (start-parts c p a.second k));
+      walk = walk-among c b.second_among (walk-part c (nat_abs reach) b.answer b.second);
     }

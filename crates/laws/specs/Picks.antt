@@ -5,7 +5,7 @@ use Rattle.std.proofs.Math.Nat as NatL
 use Rattle.rules.specs.declared.Vector.{Vector}
 use Rattle.rules.specs.declared.Look.{Look}
 use Rattle.rules.specs.declared.Levels.{Levels}
-use Rattle.rules.specs.Walk.{Stop, powers, pairs, way, only, remaining, takesPart, Probe, Found}
+use Rattle.rules.specs.Walk.{Stop, powers, pairs, way, only, remaining, takes_part, Probe, Found}
 use Rattle.rules.specs.Pick.{probe, pick}
 use Rattle.laws.specs.Levels.{at-most-3, pairs-taking, some-remain}
 use Rattle.laws.specs.Says.{Says, Few, says-weaker, says-bind}
@@ -13,7 +13,7 @@ use Rattle.laws.specs.Next.{sideways, NextLook, next-look}
 use Rattle.laws.specs.Axes.{AxesOf, levels-answered}
 use Rattle.laws.specs.Powers.{looks-add-up, three-most}
 use Rattle.laws.specs.PickRule.{Passed}
-use Rattle.laws.specs.Rounds.{NextRound, WalkRefusal, WalkFound, roundLooks, to-the-end-says}
+use Rattle.laws.specs.Rounds.{NextRound, WalkRefusal, WalkFound, round_looks, to-the-end-says}
 use Rattle.laws.specs.Checks.{CheckRefusal, CheckReady, CheckStopped, check-says}
 use Rattle.range.specs.Ranges.{between-naturals}
 
@@ -24,7 +24,7 @@ pub record FewSteps (c : Probe) (R n : ℕ) : Type 0 where
 
 -- what a refusal tells
 pub record Refusal (c : Probe) (R : ℕ) (r : Stop) : Type 0 where
-  pub fewSteps : FewSteps c R r.steps
+  pub few_steps : FewSteps c R r.steps
   pub known : (1 ≤ r.number) × (r.number ≤ 10)
   pub next : r.number ≡ 8 → NextLook c r
 
@@ -38,7 +38,7 @@ module _ (c : Probe) (R : ℕ) where
   -- of the start check
   checked : (r : Stop) → CheckRefusal c r → Refusal c R r
   checked r h = record {
-    fewSteps = record { most = omega (arith, h.noStep); asked = λ k. absurd (omega (arith, h.noStep, k)) };
+    few_steps = record { most = omega (arith, h.no_step); asked = λ k. absurd (omega (arith, h.no_step, k)) };
     known = (h.known.0, omega (arith, h.known.1));
     next = h.next;
   }
@@ -50,7 +50,7 @@ module _ (c : Probe) (R : ℕ) where
 
     walked_to : (r : Stop) → WalkRefusal c R v r → Refusal c R r
     walked_to r h = record {
-      fewSteps = record { most = h.fewSteps.most; asked = λ _. (v, asked, h.fewSteps.allowed) };
+      few_steps = record { most = h.few_steps.most; asked = λ _. (v, asked, h.few_steps.allowed) };
       known = (omega (arith, h.known.0), h.known.1);
       next = λ e. next_here r (h.next e);
     }
@@ -90,18 +90,18 @@ module _ (ok : Bool) (look : Vector → Look) (p : Vector) (frame reach : ℤ) w
 
     module _ (v : Levels) (t : List Vector) (h : CheckReady ok look p frame reach v t) where
       small : R ≤ 256
-      small = (between-naturals 1 256 reach h.faced.passed.permittedReach).1
+      small = (between-naturals 1 256 reach h.faced.passed.permitted_reach).1
 
-      all-few : (s : List Vector) → length s ≤ roundLooks c R v → length (t ++ s) ≤ N
+      all-few : (s : List Vector) → length s ≤ round_looks c R v → length (t ++ s) ≤ N
       all-few s k =
           let r = length (remaining v) in
-          let most : 6 - r + length (only (takesPart v) pairs) * suc (R - r) ≤ 6 * M - 9 = rw (pairs-taking v) (three-most r R M (some-remain v h.asked.some) (at-most-3 v) (omega arith) (omega arith)) in
-          omega (arith, length-append t s, enough small, looks-add-up K r (length (only (takesPart v) pairs)) (R - r) (length t) (length s) (at-most-3 v) h.few k, NatL.mul-le-mul_left K most)
+          let most : 6 - r + length (only (takes_part v) pairs) * suc (R - r) ≤ 6 * M - 9 = rw (pairs-taking v) (three-most r R M (some-remain v h.asked.some) (at-most-3 v) (omega arith) (omega arith)) in
+          omega (arith, length-append t s, enough small, looks-add-up K r (length (only (takes_part v) pairs)) (R - r) (length t) (length s) (at-most-3 v) h.few k, NatL.mul-le-mul_left K most)
 
-      found-few : (f : Found) (s : List Vector) → Few (roundLooks c R v) (WalkFound c R v) f s → Few N PickFound f (t ++ s)
+      found-few : (f : Found) (s : List Vector) → Few (round_looks c R v) (WalkFound c R v) f s → Few N PickFound f (t ++ s)
       found-few f s k = record { holds = record { passed = h.faced.passed; accepting = record { level = v; asked = h.asked; walked = k.holds } }; few = all-few s k.few }
 
-      walked-few : (r : Stop) (s : List Vector) → Few (roundLooks c R v) (WalkRefusal c R v) r s → Few N RefusalHere r (t ++ s)
+      walked-few : (r : Stop) (s : List Vector) → Few (round_looks c R v) (WalkRefusal c R v) r s → Few N RefusalHere r (t ++ s)
       walked-few r s k = record { holds = walked_to c R v h.asked r k.holds; few = all-few s k.few }
 
     pub pick-says : Says (Few N PickFound) (Few N RefusalHere) (pick ok look p frame reach)

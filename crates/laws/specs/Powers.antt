@@ -4,8 +4,8 @@ use Rattle.std.proofs.Common.{sym, ap, ◌∙◌, inl, inr, arith, leb→le, le-
 use Rattle.std.proofs.Math.Nat as NatL
 use Rattle.std.proofs.Math.Dec.{nleb→lt}
 use Rattle.std.proofs.lemmas.Bool.{lt-leb}
-use Rattle.rules.specs.Walk.{powersFrom, powers}
-use Rattle.rules.specs.Lean.{last, lastPower}
+use Rattle.rules.specs.Walk.{powers_from, powers}
+use Rattle.rules.specs.Lean.{last, last_power}
 use Rattle.laws.specs.Tests.{Each, In}
 
 -- l, 2l, 4l, .. up to the first that is at least R
@@ -14,11 +14,11 @@ UpTo R l [] = ⊥
 UpTo R l (k ∷ []) = (k ≡ l) × (R ≤ k)
 UpTo R l (k ∷ j ∷ ks) = (k ≡ l) × (k < R) × UpTo R (l + l) (j ∷ ks)
 
--- the first argument of `powersFrom` never runs out before that one
-powers-from : (fuel l R : ℕ) → 1 ≤ l → R ≤ l + fuel → UpTo R l (powersFrom fuel l R)
-unfolding powersFrom
+-- the first argument of `powers_from` never runs out before that one
+powers-from : (fuel l R : ℕ) → 1 ≤ l → R ≤ l + fuel → UpTo R l (powers_from fuel l R)
+unfolding powers_from
 powers-from zero l R h k = (refl, omega arith)
-powers-from (suc fuel) l R h k = go (leb R l) refl (powersFrom fuel (l + l) R) (powers-from fuel (l + l) R (omega arith) (omega arith))
+powers-from (suc fuel) l R h k = go (leb R l) refl (powers_from fuel (l + l) R) (powers-from fuel (l + l) R (omega arith) (omega arith))
   where
     go : (b : Bool) → leb R l ≡ b → (ls : List ℕ) → UpTo R (l + l) ls → UpTo R l (l ∷ (elim b [ true ↦ [] | false ↦ ls ]))
     go true e ls r = (refl, leb→le R l (rw e tt))
@@ -30,13 +30,13 @@ unfolding powers
 powers-reach R = powers-from R 1 R (omega arith) (omega arith)
 
 -- ---- one by one: l is the last if it is at least R, else those from 2l on follow, and the first argument has not run out
-pub powers-last : (fuel l R : ℕ) → R ≤ l → powersFrom fuel l R ≡ l ∷ []
-unfolding powersFrom
+pub powers-last : (fuel l R : ℕ) → R ≤ l → powers_from fuel l R ≡ l ∷ []
+unfolding powers_from
 powers-last zero l R h = refl
 powers-last (suc fuel) l R h = rw (le-leb R l h)
 
-pub powers-more : (fuel l R : ℕ) → l < R → R ≤ l + fuel → (f : ℕ) × (R ≤ l + suc f) × (powersFrom fuel l R ≡ l ∷ powersFrom f (l + l) R)
-unfolding powersFrom
+pub powers-more : (fuel l R : ℕ) → l < R → R ≤ l + fuel → (f : ℕ) × (R ≤ l + suc f) × (powers_from fuel l R ≡ l ∷ powers_from f (l + l) R)
+unfolding powers_from
 powers-more zero l R h k = absurd (omega arith)
 powers-more (suc f) l R h k = (f, k, rw (lt-leb R l h))
 
@@ -121,14 +121,14 @@ up-to-last R l [] h = absurd h
 up-to-last R l (k ∷ []) h = (NatL.le_refl k, tt)
 up-to-last R l (k ∷ j ∷ ks) h = (omega (arith, h.1, last-high R (l + l) (j ∷ ks) h.2), up-to-last R (l + l) (j ∷ ks) h.2)
 
-pub last-power : (R : ℕ) → In (lastPower R) (powers R)
-unfolding lastPower
+pub last-power : (R : ℕ) → In (last_power R) (powers R)
+unfolding last_power
 last-power R = last-in R 1 (powers R) (powers-reach R)
 
-pub last-power-high : (R : ℕ) → R ≤ lastPower R
-unfolding lastPower
+pub last-power-high : (R : ℕ) → R ≤ last_power R
+unfolding last_power
 last-power-high R = last-high R 1 (powers R) (powers-reach R)
 
-pub powers-to-last : (R : ℕ) → Each (λ l. l ≤ lastPower R) (powers R)
-unfolding lastPower
+pub powers-to-last : (R : ℕ) → Each (λ l. l ≤ last_power R) (powers R)
+unfolding last_power
 powers-to-last R = up-to-last R 1 (powers R) (powers-reach R)

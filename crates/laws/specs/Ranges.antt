@@ -14,8 +14,8 @@ use Rattle.rules.specs.declared.Pair.{Pair}
 use Rattle.rules.specs.declared.Choice.{Choice}
 use Rattle.rules.specs.Vectors.{◌⊕◌, ◌⊖◌, scale, lay}
 use Rattle.rules.specs.Asked.{answered}
-use Rattle.rules.specs.Walk.{powersFrom, powers, Probe, first, second, way, step, round}
-use Rattle.rules.specs.Pick.{isInside}
+use Rattle.rules.specs.Walk.{powers_from, powers, Probe, first, second, way, step, round}
+use Rattle.rules.specs.Pick.{is_inside}
 use Rattle.laws.specs.Tests.{In}
 use Rattle.laws.specs.Parts.{Parts}
 use Rattle.laws.specs.Triples.{All, all-with}
@@ -33,23 +33,23 @@ abbrev pub InCube : ℕ → Vector → Type 0
 InCube M = Parts (Between M)
 
 -- ---- what was looked at was inside
-pub not-outside : (look : Vector → Look) (p : Vector) → T (isInside (look p)) → look p ≡ Outside → ⊥
-unfolding isInside
-not-outside look p i e = subst (λ x. T (isInside x)) e i
+pub not-outside : (look : Vector → Look) (p : Vector) → T (is_inside (look p)) → look p ≡ Outside → ⊥
+unfolding is_inside
+not-outside look p i e = subst (λ x. T (is_inside x)) e i
 
 -- the powers begin with 1
 pub powers-begin : (R : ℕ) → (ls : List ℕ) × (powers R ≡ 1 ∷ ls)
-unfolding powers powersFrom
+unfolding powers powers_from
 powers-begin zero = ([], refl)
 powers-begin (suc R) = (_, refl)
 
 module _ (c : Probe) where
   -- u, laid in, at power 1
   abbrev pub IsIn : Vector → Type 0
-  IsIn u = T (isInside (c.look (along c (lay c.signs u) 1)))
+  IsIn u = T (is_inside (c.look (along c (lay c.signs u) 1)))
 
-  fell-first : (u : Vector) (ls : List ℕ) (b : Bool) → FellAt c u (1 ∷ ls) b → T (isInside (c.look (along c u 1)))
-  unfolding isInside
+  fell-first : (u : Vector) (ls : List ℕ) (b : Bool) → FellAt c u (1 ∷ ls) b → T (is_inside (c.look (along c u 1)))
+  unfolding is_inside
   fell-first u ls true (inl e) = rw e tt
   fell-first u ls true (inr f) = rw f.0 tt
   fell-first u ls false f = rw f.0 tt
@@ -86,14 +86,14 @@ turned-within : (M : ℕ) (a b : Vector) → Bounded M (b ⊖ a) → Bounded M (
 unfolding ◌⊖◌
 turned-within M a b h = record { in-x = opposite M a.x b.x h.in-x; in-y = opposite M a.y b.y h.in-y; in-z = opposite M a.z b.z h.in-z }
 
-module _ (c : Probe) (M : ℕ) (box : (p : Vector) → T (isInside (c.look p)) → InCube M p) (inside : InCube M c.apex) (signed : Signs c.signs) where
+module _ (c : Probe) (M : ℕ) (box : (p : Vector) → T (is_inside (c.look p)) → InCube M p) (inside : InCube M c.apex) (signed : Signs c.signs) where
   pub way-within : (u : Vector) → IsIn c u → Bounded M u
   unfolding ◌⊕◌ scale lay
   way-within u i =
       let b = box _ i in
       let q = c.apex in
       let s = c.signs in
-      record { in-x = near M q.x s.x u.x signed.ofX inside.ofX b.ofX; in-y = near M q.y s.y u.y signed.ofY inside.ofY b.ofY; in-z = near M q.z s.z u.z signed.of_z inside.of_z b.of_z }
+      record { in-x = near M q.x s.x u.x signed.of_x inside.of_x b.of_x; in-y = near M q.y s.y u.y signed.of_y inside.of_y b.of_y; in-z = near M q.z s.z u.z signed.of_z inside.of_z b.of_z }
 
   -- after a round that was answered, whatever step is taken by a pair that it asked
   pub step-within : (ls : List ℕ) → c.powers ≡ 1 ∷ ls → (ps : List Pair) (m : Triangle) {y : Choice} {t : List Vector} → round c ps m ≡ answered y t → All (Bounded M) m → (x : Pair) → In x ps → All (Bounded M) (step m x)

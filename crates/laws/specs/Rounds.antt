@@ -13,7 +13,7 @@ use Rattle.rules.specs.declared.Levels.{Levels}
 use Rattle.rules.specs.declared.Triangle.{Triangle}
 use Rattle.rules.specs.declared.Pair.{Pair}
 use Rattle.rules.specs.Vectors.{size}
-use Rattle.rules.specs.Walk.{Stop, stop, units, way, pairs, normal, keep, only, remaining, takesPart, levelled, Probe, Found, found, rounds, end, toTheEnd}
+use Rattle.rules.specs.Walk.{Stop, stop, units, way, pairs, normal, keep, only, remaining, takes_part, levelled, Probe, Found, found, rounds, end, to_the_end}
 use Rattle.laws.specs.Tests.{Each}
 use Rattle.laws.specs.Tame.{Tame, units-tame, step-tame}
 use Rattle.laws.specs.Levels.{two-remain}
@@ -28,9 +28,9 @@ use Rattle.laws.specs.Walks.{WalkRule, walk-says}
 -- refusal 8: the way of a pair that takes part, of the triangle reached, was asked next, and a voxel of it lies outside the box
 pub record NextRound (c : Probe) (v : Levels) (r : Stop) : Type 0 where
   pub triangle : Triangle
-  pub reached : Reached c (only (takesPart v) pairs) r.steps triangle
+  pub reached : Reached c (only (takes_part v) pairs) r.steps triangle
   pub pair : Pair
-  pub turn : TurnOf c (only (takesPart v) pairs) triangle pair
+  pub turn : TurnOf c (only (takes_part v) pairs) triangle pair
   pub stopped : Stopped c (way triangle pair) r.place
 
 module _ (c : Probe) (R : ℕ) (v : Levels) where
@@ -41,7 +41,7 @@ module _ (c : Probe) (R : ℕ) (v : Levels) where
 
   -- what a refusal tells: 8, 9 or 10
   pub record WalkRefusal (r : Stop) : Type 0 where
-    pub fewSteps : RoundSteps r.steps
+    pub few_steps : RoundSteps r.steps
     pub known : (8 ≤ r.number) × (r.number ≤ 10)
     pub next : r.number ≡ 8 → NextRound c v r
 
@@ -49,8 +49,8 @@ module _ (c : Probe) (R : ℕ) (v : Levels) where
   pub record End (e : Triangle × ℕ) : Type 0 where
     pub tame : Tame e.0
     pub flat : Flat v e.0
-    pub fewSteps : RoundSteps e.1
-    pub stood : Each (λ x. Fell c (way e.0 x) false) (only (takesPart v) pairs)
+    pub few_steps : RoundSteps e.1
+    pub stood : Each (λ x. Fell c (way e.0 x) false) (only (takes_part v) pairs)
 
   -- and what was found there, if it is accepted
   pub record WalkFound (f : Found) : Type 0 where
@@ -70,43 +70,43 @@ module _ (c : Probe) (R : ℕ) (v : Levels) where
 
   -- what every round keeps
   record Kept (left r n : ℕ) (m : Triangle) : Type 0 where
-    isLeft : r ≡ left
-    fewSteps : n + left ≤ R - length (remaining v)
+    is_left : r ≡ left
+    few_steps : n + left ≤ R - length (remaining v)
     two : 1 ≤ n → 2 ≤ length (remaining v)
     tame : Tame m
     flat : Flat v m
-    reached : Reached c (only (takesPart v) pairs) n m
+    reached : Reached c (only (takes_part v) pairs) n m
 
   few-steps : (left r n : ℕ) (m : Triangle) → Kept left r n m → RoundSteps n
-  few-steps left r n m h = record { allowed = omega (arith, h.fewSteps); most = most n h.fewSteps h.two }
+  few-steps left r n m h = record { allowed = omega (arith, h.few_steps); most = most n h.few_steps h.two }
     where
       most : (n : ℕ) → n + left ≤ R - length (remaining v) → (1 ≤ n → 2 ≤ length (remaining v)) → n ≤ R - 2
       most zero h k = omega arith
       most (suc n) h k = omega (arith, h, k (omega arith))
 
-  next-round : (n : ℕ) (m : Triangle) (p : Vector) → Reached c (only (takesPart v) pairs) n m → StoppedOf c m (only (takesPart v) pairs) p → NextRound c v (stop 8 p n)
+  next-round : (n : ℕ) (m : Triangle) (p : Vector) → Reached c (only (takes_part v) pairs) n m → StoppedOf c m (only (takes_part v) pairs) p → NextRound c v (stop 8 p n)
   next-round n m p h o = record { triangle = m; reached = h; pair = o.pair; turn = turn-of c o; stopped = o.stopped }
 
   -- 9 and 10
   other-than-8 : (number n : ℕ) (p : Vector) → (9 ≤ number) × (number ≤ 10) → RoundSteps n → WalkRefusal (stop number p n)
-  other-than-8 number n p h k = record { fewSteps = k; known = (omega (arith, h.0), h.1); next = λ e. absurd (omega (arith, h.0, e)) }
+  other-than-8 number n p h k = record { few_steps = k; known = (omega (arith, h.0), h.1); next = λ e. absurd (omega (arith, h.0, e)) }
 
-  every-walk : WalkRule c (only (takesPart v) pairs) Kept End WalkRefusal
+  every-walk : WalkRule c (only (takes_part v) pairs) Kept End WalkRefusal
   every-walk = record {
-    outside = λ left r n m p h o. record { fewSteps = few-steps left r n m h; known = (omega arith, omega arith); next = λ _. next-round n m p h.reached o };
+    outside = λ left r n m p h o. record { few_steps = few-steps left r n m h; known = (omega arith, omega arith); next = λ _. next-round n m p h.reached o };
     ends = λ left r n m h w. record {
       tame = h.tame;
       flat = h.flat;
-      fewSteps = few-steps left r n m h;
-      stood = none-fell m (only (takesPart v) pairs) w.0 w.1 (choice-exists m h.tame.unimodular w.0 (sym w.2));
+      few_steps = few-steps left r n m h;
+      stood = none-fell m (only (takes_part v) pairs) w.0 w.1 (choice-exists m h.tame.unimodular w.0 (sym w.2));
     };
     stops = λ r n m x h w. other-than-8 9 n _ (omega arith, omega arith) (few-steps 0 r n m h);
-    steps = λ left r n m x h w. let t = chosen-only c m (takesPart v) pairs x w in (
+    steps = λ left r n m x h w. let t = chosen-only c m (takes_part v) pairs x w in (
       left,
-      omega (arith, h.isLeft),
+      omega (arith, h.is_left),
       record {
-        isLeft = refl;
-        fewSteps = omega (arith, h.fewSteps);
+        is_left = refl;
+        few_steps = omega (arith, h.few_steps);
         two = λ _. two-remain v x t;
         tame = step-tame m x h.tame;
         flat = step-flat v m x t h.flat;
@@ -116,20 +116,20 @@ module _ (c : Probe) (R : ℕ) (v : Levels) where
   }
 
   -- the most looks: the pairs that take part, at each power, in each round
-  abbrev pub roundLooks : ℕ
-  roundLooks = suc (R - length (remaining v)) * (length (only (takesPart v) pairs) * length c.powers)
+  abbrev pub round_looks : ℕ
+  round_looks = suc (R - length (remaining v)) * (length (only (takes_part v) pairs) * length c.powers)
 
-  rounds-say : Says (Few roundLooks End) (Few roundLooks WalkRefusal) (rounds c R v)
+  rounds-say : Says (Few round_looks End) (Few round_looks WalkRefusal) (rounds c R v)
   unfolding rounds
   rounds-say =
-      walk-says c (only (takesPart v) pairs) every-walk (R - length (remaining v)) (R - length (remaining v)) 0 units
-      (record { isLeft = refl; fewSteps = omega arith; two = λ h. absurd (omega (arith, h)); tame = units-tame; flat = units-flat v; reached = refl })
+      walk-says c (only (takes_part v) pairs) every-walk (R - length (remaining v)) (R - length (remaining v)) 0 units
+      (record { is_left = refl; few_steps = omega arith; two = λ h. absurd (omega (arith, h)); tame = units-tame; flat = units-flat v; reached = refl })
 
   end-says : (e : Triangle × ℕ) → End e → Says (Few 0 WalkFound) (Few 0 WalkRefusal) (end c R v e)
   unfolding end
   end-says e h =
-      says-ensure _ _ _ (λ _. record { holds = other-than-8 10 e.1 _ (omega arith, omega arith) h.fewSteps; few = omega arith })
+      says-ensure _ _ _ (λ _. record { holds = other-than-8 10 e.1 _ (omega arith, omega arith) h.few_steps; few = omega arith })
       (λ n. says-answer (record { holds = record { at = e; is = refl; end = h; fits = leb→le (size (levelled v (normal e.0))) R n }; few = omega arith }))
 
-  pub to-the-end-says : Says (Few roundLooks WalkFound) (Few roundLooks WalkRefusal) (toTheEnd c R v)
-  to-the-end-says = few-fewer _ (omega arith) (few-bind {M = roundLooks} {N = 0} _ _ rounds-say end-says)
+  pub to-the-end-says : Says (Few round_looks WalkFound) (Few round_looks WalkRefusal) (to_the_end c R v)
+  to-the-end-says = few-fewer _ (omega arith) (few-bind {M = round_looks} {N = 0} _ _ rounds-say end-says)

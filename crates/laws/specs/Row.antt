@@ -10,17 +10,17 @@ use Rattle.rules.specs.declared.Check.{Check}
 use Rattle.rules.specs.declared.Check.TheVariants.{Ready, Refused as CheckRefused}
 use Rattle.rules.specs.Solids.{permitted, look}
 use Rattle.rules.specs.Asked.{Asked, answered, refused, after, ◌>>=◌}
-use Rattle.rules.specs.Walk.{Stop, powers, allLevel, Probe, Found, toTheEnd}
+use Rattle.rules.specs.Walk.{Stop, powers, all_level, Probe, Found, to_the_end}
 use Rattle.rules.specs.Pick.{probe, check, pick, answer, pick_of}
-use Rattle.rules.specs.TwoCalls.{readyStart, checkAnswer, checkOf, isReady, walkOn, answerFrom, inARow}
+use Rattle.rules.specs.TwoCalls.{ready_start, check_answer, check_of, is_ready, walk_on, answer_from, in_a_row}
 use Rattle.laws.specs.Says.{Says}
 use Rattle.laws.specs.Checks.{CheckReady, CheckStopped, check-says}
-use Rattle.laws.specs.Answers.{stopOf}
+use Rattle.laws.specs.Answers.{stop_of}
 use Rattle.laws.specs.Handed.{ready-walks}
 
 -- after the voxels t the looks are counted on from their number
-answer-after : (t : List Vector) (x : Asked Stop Found) → answerFrom (length t) x ≡ answer (after t x)
-unfolding answer answerFrom after
+answer-after : (t : List Vector) (x : Asked Stop Found) → answer_from (length t) x ≡ answer (after t x)
+unfolding answer answer_from after
 answer-after t (answered f s) = rw (length-append t s)
 answer-after t (refused r s) = rw (length-append t s)
 
@@ -37,29 +37,29 @@ module _ (solid : Solid) (bytes : List ℕ) (p : Vector) (frame reach : ℤ) whe
   abbrev StoppedOn : Stop → List Vector → Type 0
   StoppedOn = CheckStopped (permitted solid bytes) (look solid bytes) p frame reach
 
-  is-ready : (v : Levels) (t : List Vector) → ReadyOn v t → T (isReady K (readyStart p c.apex v (length t)))
-  unfolding isReady
-  is-ready v t h = yes_and (leb (length t) (2 + 6 * K)) (not (allLevel v)) (le→leb (length t) (2 + 6 * K) (omega (arith, h.few))) h.asked.some
+  is-ready : (v : Levels) (t : List Vector) → ReadyOn v t → T (is_ready K (ready_start p c.apex v (length t)))
+  unfolding is_ready
+  is-ready v t h = yes_and (leb (length t) (2 + 6 * K)) (not (all_level v)) (le→leb (length t) (2 + 6 * K) (omega (arith, h.few))) h.asked.some
 
-  pub row : inARow solid bytes frame reach (checkOf solid bytes p frame reach) ≡ pick_of solid bytes p frame reach
-  unfolding inARow checkOf checkAnswer pick_of pick answer walkOn ◌>>=◌
+  pub row : in_a_row solid bytes frame reach (check_of solid bytes p frame reach) ≡ pick_of solid bytes p frame reach
+  unfolding in_a_row check_of check_answer pick_of pick answer walk_on ◌>>=◌
   row = go (check (permitted solid bytes) (look solid bytes) p frame reach) (check-says (permitted solid bytes) (look solid bytes) p frame reach)
     where
-      go : (x : Asked Stop Levels) → Says ReadyOn StoppedOn x → inARow solid bytes frame reach (checkAnswer p c.apex x) ≡ answer (x >>= λ v. toTheEnd c (nat_abs reach) v)
+      go : (x : Asked Stop Levels) → Says ReadyOn StoppedOn x → in_a_row solid bytes frame reach (check_answer p c.apex x) ≡ answer (x >>= λ v. to_the_end c (nat_abs reach) v)
       go (answered v t) s =
-          let d = readyStart p c.apex v (length t) in
-          ready-walks solid bytes d frame reach s.of.faced.passed (is-ready v t s.of) ∙ answer-after t (toTheEnd c (nat_abs reach) v)
+          let d = ready_start p c.apex v (length t) in
+          ready-walks solid bytes d frame reach s.of.faced.passed (is-ready v t s.of) ∙ answer-after t (to_the_end c (nat_abs reach) v)
       go (refused r t) s = refl
 
   -- what the check's answer tells
   abbrev pub CheckTold : Check → Type 0
   CheckTold (Ready d) = (d.start ≡ p) × (d.apex ≡ (probe (look solid bytes) p frame reach).apex) × ((t : List Vector) × CheckReady (permitted solid bytes) (look solid bytes) p frame reach d.level t × (d.looks ≡ length t))
-  CheckTold (CheckRefused r) = (t : List Vector) × CheckStopped (permitted solid bytes) (look solid bytes) p frame reach (stopOf r) t × (r.looks ≡ length t)
+  CheckTold (CheckRefused r) = (t : List Vector) × CheckStopped (permitted solid bytes) (look solid bytes) p frame reach (stop_of r) t × (r.looks ≡ length t)
 
-  pub told : CheckTold (checkOf solid bytes p frame reach)
-  unfolding checkOf checkAnswer
+  pub told : CheckTold (check_of solid bytes p frame reach)
+  unfolding check_of check_answer
   told = go (check (permitted solid bytes) (look solid bytes) p frame reach) (check-says (permitted solid bytes) (look solid bytes) p frame reach)
     where
-      go : (x : Asked Stop Levels) → Says ReadyOn StoppedOn x → CheckTold (checkAnswer p c.apex x)
+      go : (x : Asked Stop Levels) → Says ReadyOn StoppedOn x → CheckTold (check_answer p c.apex x)
       go (answered v t) s = (refl, refl, (t, s.of, refl))
       go (refused r t) s = (t, s.of, refl)

@@ -13,7 +13,7 @@ use Rattle.rules.specs.Vectors.{◌⊕◌, ◌⊖◌, dot, cross, det, sphere}
 use Rattle.rules.specs.Walk.{first, second, way, normal, determinant, inside}
 use Rattle.laws.specs.Tests.{less, not-less, compared}
 use Rattle.laws.specs.Parts.{of2, dot-sum, dot-difference}
-use Rattle.laws.specs.Triples.{All, all_first, all-second, detOf, of9, crosses, normal-dot}
+use Rattle.laws.specs.Triples.{All, all_first, all-second, det_of, of9, crosses, normal-dot}
 use Rattle.laws.specs.Bounds.{Bounded, way-bounded, within-dot}
 
 -- m_l·(m_l - m_k)
@@ -26,17 +26,17 @@ spread m a = dot m.m0 m.m0 *ℤ dot (crosses m).m0 a +ℤ dot m.m1 m.m1 *ℤ dot
 
 -- the equation of the sphere through the corners and q, at q + a
 power : Triangle → Vector → ℤ
-power m a = detOf m *ℤ dot a a +ℤ spread m a
+power m a = det_of m *ℤ dot a a +ℤ spread m a
 
 split : (m : Triangle) (a b : Vector)
-    → detOf m *ℤ sphere (m.m0 ⊖ m.m1) (m.m0 ⊖ m.m2) (m.m0 ⊕ a) (m.m0 ⊕ b) ≡ dot (normal m) (m.m0 ⊕ a) *ℤ power m b -ℤ dot (normal m) (m.m0 ⊕ b) *ℤ power m a
+    → det_of m *ℤ sphere (m.m0 ⊖ m.m1) (m.m0 ⊖ m.m2) (m.m0 ⊕ a) (m.m0 ⊕ b) ≡ dot (normal m) (m.m0 ⊕ a) *ℤ power m b -ℤ dot (normal m) (m.m0 ⊕ b) *ℤ power m a
 unfolding power spread det dot cross sphere ◌⊕◌ ◌⊖◌ normal
 split m a b = byring (a.x ∷ a.y ∷ a.z ∷ b.x ∷ b.y ∷ b.z ∷ of9 m) (search sides depth 40 fits 5000) tt
 
-over-way : (m : Triangle) (x : Pair) → dot (normal m) (m.m0 ⊕ way m x) ≡ detOf m
+over-way : (m : Triangle) (x : Pair) → dot (normal m) (m.m0 ⊕ way m x) ≡ det_of m
 over-way m x =
     rw (dot-sum (normal m) m.m0 (way m x), dot-difference (normal m) (second m x) (first m x), (normal-dot m).of0, all_first (normal-dot m) x, all-second (normal-dot m) x)
-    (byring (detOf m ∷ []) (search sides depth 40 fits 5000) tt)
+    (byring (det_of m ∷ []) (search sides depth 40 fits 5000) tt)
 
 spread-difference : (m : Triangle) (a b : Vector) → spread m (a ⊖ b) ≡ spread m a -ℤ spread m b
 unfolding spread
@@ -44,7 +44,7 @@ spread-difference m a b =
     rw (dot-difference (crosses m).m0 a b, dot-difference (crosses m).m1 a b, dot-difference (crosses m).m2 a b)
     (byring (dot m.m0 m.m0 ∷ dot m.m1 m.m1 ∷ dot m.m2 m.m2 ∷ dot (crosses m).m0 a ∷ dot (crosses m).m1 a ∷ dot (crosses m).m2 a ∷ dot (crosses m).m0 b ∷ dot (crosses m).m1 b ∷ dot (crosses m).m2 b ∷ []) (search sides depth 40 fits 5000) tt)
 
-spread_at : (m : Triangle) → All (λ a. spread m a ≡ detOf m *ℤ dot a a) m
+spread_at : (m : Triangle) → All (λ a. spread m a ≡ det_of m *ℤ dot a a) m
 unfolding spread det dot cross
 spread_at m = record {
   of0 = byring (of9 m) (search sides depth 40 fits 5000) tt;
@@ -57,11 +57,11 @@ twice : (d : ℤ) (a b : Vector) → d *ℤ dot (b ⊖ a) (b ⊖ a) +ℤ (d *ℤ
 unfolding dot ◌⊖◌
 twice d a b = byring (d ∷ of2 a b) (search sides depth 40 fits 5000) tt
 
-power-way : (m : Triangle) (x : Pair) → power m (way m x) ≡ pos 2 *ℤ detOf m *ℤ weight m x
+power-way : (m : Triangle) (x : Pair) → power m (way m x) ≡ pos 2 *ℤ det_of m *ℤ weight m x
 unfolding power
-power-way m x = rw (spread-difference m (second m x) (first m x), all_first (spread_at m) x, all-second (spread_at m) x) (twice (detOf m) (first m x) (second m x))
+power-way m x = rw (spread-difference m (second m x) (first m x), all_first (spread_at m) x, all-second (spread_at m) x) (twice (det_of m) (first m x) (second m x))
 
-pub determinant-is : (m : Triangle) (x y : Pair) → detOf m ≡ pos 1 → determinant m x y ≡ pos 2 *ℤ (weight m y -ℤ weight m x)
+pub determinant-is : (m : Triangle) (x y : Pair) → det_of m ≡ pos 1 → determinant m x y ≡ pos 2 *ℤ (weight m y -ℤ weight m x)
 unfolding determinant
 determinant-is m x y d =
     by-eq (pos 1) (rw (over-way m x, over-way m y, power-way m x, power-way m y, d) at (split m (way m x) (way m y)))
@@ -75,7 +75,7 @@ halved a b = go (compared a b)
     go (inl h) = less (pos 2 *ℤ (a -ℤ b)) (pos 0) (let x = atom a in let y = atom b in goal (search linear) (omega (arith, parts))) ∙ sym (less a b h)
     go (inr h) = not-less (pos 2 *ℤ (a -ℤ b)) (pos 0) (let x = atom a in let y = atom b in goal (search linear) (omega (arith, parts))) ∙ sym (not-less a b h)
 
-pub inside-by-weight : (m : Triangle) → detOf m ≡ pos 1 → (x y : Pair) → inside m x y ≡ lt_z (weight m y) (weight m x)
+pub inside-by-weight : (m : Triangle) → det_of m ≡ pos 1 → (x y : Pair) → inside m x y ≡ lt_z (weight m y) (weight m x)
 unfolding inside
 inside-by-weight m d x y = ap (λ (z : ℤ). lt_z z (pos 0)) (determinant-is m x y d) ∙ halved (weight m y) (weight m x)
 

@@ -20,14 +20,14 @@ use Rattle.rules.specs.declared.Pair.{Pair}
 use Rattle.rules.specs.declared.Pair.TheVariants.{P01}
 use Rattle.rules.specs.declared.ReadyStart.{ReadyStart}
 use Rattle.rules.specs.Vectors.{◌⊖◌, minus, lay, dot, cross, det, origin}
-use Rattle.rules.specs.Walk.{Axis, axis0, axis1, axis2, unit, withVector, pairs, from, first, second, way, with, only, takesPart, Probe, Found}
-use Rattle.rules.specs.Solids.{between, permittedStack, look}
-use Rattle.rules.specs.Pick.{isInside, probeFrom, pick_of}
+use Rattle.rules.specs.Walk.{Axis, axis0, axis1, axis2, unit, with_vector, pairs, from, first, second, way, with, only, takes_part, Probe, Found}
+use Rattle.rules.specs.Solids.{between, permitted_stack, look}
+use Rattle.rules.specs.Pick.{is_inside, probe_from, pick_of}
 use Rattle.rules.specs.TwoCalls.{walk_of}
 use Rattle.range.specs.Ranges.{between-naturals}
 use Rattle.laws.specs.Only.{each_member, taking-in}
 use Rattle.laws.specs.Parts.{part, part_of, part-sum, part-scale, part-minus, part-lay, part-origin, vector-by-parts, difference-turned}
-use Rattle.laws.specs.Triples.{detOf, of9, step-det}
+use Rattle.laws.specs.Triples.{det_of, of9, step-det}
 use Rattle.laws.specs.Tame.{turned}
 use Rattle.laws.specs.Frames.{IsSign, Signs, signs-are, sign-size}
 use Rattle.laws.specs.Looks.{along, FellAt, Fell}
@@ -36,14 +36,14 @@ use Rattle.laws.specs.Ranges.{Between, InCube}
 use Rattle.laws.specs.Boxes.{stack-cube}
 use Rattle.laws.specs.Axes.{FellAlong, AxesOf}
 use Rattle.laws.specs.Rounds.{End, WalkFound}
-use Rattle.laws.specs.Answers.{foundOf, accepted-tells}
+use Rattle.laws.specs.Answers.{found_of, accepted-tells}
 use Rattle.laws.specs.Handed.{walk-accepted}
 use Rattle.laws.specs.BothWays.{turned-takes, turned-way}
 
 -- two ways that did not fall were looked at, at one power of at least M, inside the box
 both-in : (c : Probe) (u v : Vector) (M : ℕ) (ls : List ℕ) → Reaches M ls → FellAt c u ls false → FellAt c v ls false
-    → (l : ℕ) × (M ≤ l) × T (isInside (c.look (along c u l))) × T (isInside (c.look (along c v l)))
-unfolding isInside
+    → (l : ℕ) × (M ≤ l) × T (is_inside (c.look (along c u l))) × T (is_inside (c.look (along c v l)))
+unfolding is_inside
 both-in c u v M [] r f g = absurd r
 both-in c u v M (l ∷ ls) (inl h) f g = (l, h, rw f.0 tt, rw g.0 tt)
 both-in c u v M (l ∷ ls) (inr r) f g = both-in c u v M ls r f.1 g.1
@@ -79,20 +79,20 @@ unit-one axis0 = refl
 unit-one axis1 = refl
 unit-one axis2 = refl
 
-zero-flat : (m : Triangle) (k : Axis) → detOf (withVector m k origin) ≡ pos 0
+zero-flat : (m : Triangle) (k : Axis) → det_of (with_vector m k origin) ≡ pos 0
 unfolding det dot cross
 zero-flat m axis0 = byring (of9 m) (search sides depth 40 fits 5000) tt
 zero-flat m axis1 = byring (of9 m) (search sides depth 40 fits 5000) tt
 zero-flat m axis2 = byring (of9 m) (search sides depth 40 fits 5000) tt
 
 -- m_k less m_l is put in by a step, which keeps the determinant
-equal-flat : (m : Triangle) (x : Pair) → ((k : Axis) → part k (way m x) ≡ pos 0) → detOf m ≡ pos 0
-equal-flat m x h = sym (step-det m x) ∙ ap (λ a. detOf (with m x a)) gone ∙ zero-flat m (from x)
+equal-flat : (m : Triangle) (x : Pair) → ((k : Axis) → part k (way m x) ≡ pos 0) → det_of m ≡ pos 0
+equal-flat m x h = sym (step-det m x) ∙ ap (λ a. det_of (with m x a)) gone ∙ zero-flat m (from x)
   where
     gone : first m x ⊖ second m x ≡ origin
     gone = difference-turned (first m x) (second m x) ∙ vector-by-parts (λ k. part-minus k (way m x) ∙ ap neg_ℤ (h k) ∙ sym (part-origin k))
 
-module _ (c : Probe) (box : (p : Vector) → T (isInside (c.look p)) → InCube 255 p) (signed : Signs c.signs) (far : Reaches 128 c.powers) where
+module _ (c : Probe) (box : (p : Vector) → T (is_inside (c.look p)) → InCube 255 p) (signed : Signs c.signs) (far : Reaches 128 c.powers) where
   abbrev q : Vector
   q = c.apex
 
@@ -116,24 +116,24 @@ module _ (c : Probe) (box : (p : Vector) → T (isInside (c.look p)) → InCube 
   no-level k true f = let o : pos 1 ≡ pos 0 = sym (unit-one k) ∙ still (unit k) f.1 f.0 k in absurd (omega (arith, parts))
 
   -- the ways of a pair that takes part and of the pair turned round
-  too_far : (R : ℕ) (v : Levels) (e : Triangle × ℕ) → End c R v e → (x : Pair) → T (takesPart v x) → ⊥
+  too_far : (R : ℕ) (v : Levels) (e : Triangle × ℕ) → End c R v e → (x : Pair) → T (takes_part v x) → ⊥
   too_far R v e h x t =
       let m = e.0 in
-      let stood : (x : Pair) → T (takesPart v x) → Fell c (way m x) false = λ x t. each_member (λ x. Fell c (way m x) false) x (only (takesPart v) pairs) h.stood (taking-in v x t) in
+      let stood : (x : Pair) → T (takes_part v x) → Fell c (way m x) false = λ x t. each_member (λ x. Fell c (way m x) false) x (only (takes_part v) pairs) h.stood (taking-in v x t) in
       let back = subst (λ u. Fell c u false) (turned-way m x) (stood (turned x) (turned-takes v x t)) in
       let o : pos 1 ≡ pos 0 = sym h.tame.unimodular ∙ equal-flat m x (still (way m x) (stood x t) back) in
       omega (arith, parts)
 
-  none-level : (v : Levels) → AxesOf c v → T (takesPart v P01)
-  unfolding takesPart
+  none-level : (v : Levels) → AxesOf c v → T (takes_part v P01)
+  unfolding takes_part
   none-level v a = yes_and (not v.x) (not v.y) (no-level axis0 v.x (a.axis axis0).fell) (no-level axis1 v.y (a.axis axis1).fell)
 
 -- so a walk that found something, of which a pair takes part if the reach is above 64, has none above
-module _ (stack : Stack) (bytes : List ℕ) (q : Vector) (frame reach : ℤ) (ok : T (permittedStack stack bytes)) (range : T (between (pos 1) reach (pos 256))) where
+module _ (stack : Stack) (bytes : List ℕ) (q : Vector) (frame reach : ℤ) (ok : T (permitted_stack stack bytes)) (range : T (between (pos 1) reach (pos 256))) where
   abbrev c : Probe
-  c = probeFrom (look (IsStack stack) bytes) q frame reach
+  c = probe_from (look (IsStack stack) bytes) q frame reach
 
-  at-most-64 : (v : Levels) (f : Found) → WalkFound c (nat_abs reach) v f → (64 < nat_abs reach → (x : Pair) × T (takesPart v x)) → reach ≤ℤ pos 64
+  at-most-64 : (v : Levels) (f : Found) → WalkFound c (nat_abs reach) v f → (64 < nat_abs reach → (x : Pair) × T (takes_part v x)) → reach ≤ℤ pos 64
   at-most-64 v f w pair =
       let R = between-naturals 1 256 reach range in
       let small = go (leb (nat_abs reach) 64) refl in
@@ -151,11 +151,11 @@ pub stack-reach : (stack : Stack) (bytes : List ℕ) (p : Vector) (frame reach :
 stack-reach stack bytes p frame reach a is =
     let h = accepted-tells (IsStack stack) bytes p frame reach a is in
     let o = h.accepting in
-    at-most-64 stack bytes _ frame reach h.passed.permittedSolid h.passed.permittedReach o.level (foundOf a) o.walked
-    (λ far. (P01, none-level _ (stack-cube stack bytes h.passed.permittedSolid) (signs-are (nat_abs frame)) (powers-128 (nat_abs reach) far) o.level o.asked))
+    at-most-64 stack bytes _ frame reach h.passed.permitted_solid h.passed.permitted_reach o.level (found_of a) o.walked
+    (λ far. (P01, none-level _ (stack-cube stack bytes h.passed.permitted_solid) (signs-are (nat_abs frame)) (powers-128 (nat_abs reach) far) o.level o.asked))
 
 -- a walk from a ready start of which a pair takes part
-pub walk-stack-reach : (stack : Stack) (bytes : List ℕ) (d : ReadyStart) (frame reach : ℤ) (a : AcceptedPick) → walk_of (IsStack stack) bytes d frame reach ≡ Accepted a → (x : Pair) → T (takesPart d.level x) → reach ≤ℤ pos 64
+pub walk-stack-reach : (stack : Stack) (bytes : List ℕ) (d : ReadyStart) (frame reach : ℤ) (a : AcceptedPick) → walk_of (IsStack stack) bytes d frame reach ≡ Accepted a → (x : Pair) → T (takes_part d.level x) → reach ≤ℤ pos 64
 walk-stack-reach stack bytes d frame reach a is x takes =
     let h = walk-accepted (IsStack stack) bytes d frame reach a is in
-    at-most-64 stack bytes d.apex frame reach h.0.permittedSolid h.0.permittedReach d.level (foundOf a) h.1 (λ _. (x, takes))
+    at-most-64 stack bytes d.apex frame reach h.0.permitted_solid h.0.permitted_reach d.level (found_of a) h.1 (λ _. (x, takes))

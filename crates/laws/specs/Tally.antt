@@ -7,7 +7,7 @@ use Rattle.rules.specs.declared.Vector.{Vector}
 use Rattle.rules.specs.declared.Look.{Look}
 use Rattle.rules.specs.declared.Look.TheVariants.{Filled, Empty, Outside}
 use Rattle.rules.specs.Asked.{Asked, answered, refused, after, ◌>>=◌}
-use Rattle.rules.specs.Walk.{Stop, stop, ensure, seen, asked, lookAt}
+use Rattle.rules.specs.Walk.{Stop, stop, ensure, seen, asked, look_at}
 
 pub data Tally (E A : Type 0) : Type 0 where
   yes : A → ℕ → Tally E A
@@ -26,12 +26,12 @@ pub gives-settled : {E A R : Type 0} {n : ℕ} {x : Asked E A} {p o : Tally E A}
 gives-settled made i j h k = sym i ∙ ap made (h.is ∙ sym k.is) ∙ j
 
 -- ---- how many looks so many falls questions may take. A question takes nine at most; 512, which no power of a permitted reach exceeds, bounds them without counting
-abbrev pub mostLooks : ℕ → ℕ
-mostLooks questions = 512 * questions
+abbrev pub most_looks : ℕ → ℕ
+most_looks questions = 512 * questions
 
 -- so many questions more can be counted in 32 bits
 abbrev pub Countable : ℕ → ℕ → Type 0
-Countable questions looks = looks + mostLooks questions ≤ 4294967295
+Countable questions looks = looks + most_looks questions ≤ 4294967295
 
 -- ---- one question and then another
 counts-on : (n : ℕ) (t s : List Vector) → n + length t + length s ≡ n + length (t ++ s)
@@ -116,16 +116,16 @@ module _ {A : Type 0} (steps : ℕ) where
 
 -- ---- one look
 module _ (look : Vector → Look) (n : ℕ) (p : Vector) where
-  pub filled-there : look p ≡ Filled → Gives n (lookAt look p) (yes true (n + 1))
-  unfolding lookAt seen tally
+  pub filled-there : look p ≡ Filled → Gives n (look_at look p) (yes true (n + 1))
+  unfolding look_at seen tally
   filled-there e = record { is = rw e }
 
-  pub empty-there : look p ≡ Empty → Gives n (lookAt look p) (yes false (n + 1))
-  unfolding lookAt seen tally
+  pub empty-there : look p ≡ Empty → Gives n (look_at look p) (yes false (n + 1))
+  unfolding look_at seen tally
   empty-there e = record { is = rw e }
 
-  pub outside-there : look p ≡ Outside → Gives n (lookAt look p) (no p n)
-  unfolding lookAt seen tally
+  pub outside-there : look p ≡ Outside → Gives n (look_at look p) (no p n)
+  unfolding look_at seen tally
   outside-there e = record { is = rw e (ap (no p) (omega arith)) }
 
 -- ---- what a tally says of the question

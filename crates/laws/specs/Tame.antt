@@ -12,7 +12,7 @@ use Rattle.rules.specs.Vectors.{vector, ◌⊕◌, ◌⊖◌, dot, cross, det}
 use Rattle.rules.specs.Walk.{triangle, units, first, second, with, step, normal}
 use Rattle.laws.specs.Tests.{compared}
 use Rattle.laws.specs.Parts.{vector-eq, NonNegative, Positive, of2, of3}
-use Rattle.laws.specs.Triples.{All, all_first, all-second, all-with, detOf, of9, step-det, crosses}
+use Rattle.laws.specs.Triples.{All, all_first, all-second, all-with, det_of, of9, step-det, crosses}
 
 -- the pair (l, k)
 abbrev pub turned : Pair → Pair
@@ -53,7 +53,7 @@ step-crosses m P21 = triangle-eq (same-right m.m2 m.m1) (cross-left m.m0 m.m2 m.
 
 -- ---- what every step keeps, on every solid
 pub record Tame (m : Triangle) : Type 0 where
-  pub unimodular : detOf m ≡ pos 1
+  pub unimodular : det_of m ≡ pos 1
   pub upward : All NonNegative (crosses m)
 
 sum-upward : {a b : ℤ} → pos 0 ≤ℤ a → pos 0 ≤ℤ b → pos 0 ≤ℤ (a +ℤ b)
@@ -61,10 +61,10 @@ sum-upward {a} {b} h k = let x = atom a in let y = atom b in goal (search linear
 
 both-upward : {a b : Vector} → NonNegative a → NonNegative b → NonNegative (a ⊕ b)
 unfolding ◌⊕◌
-both-upward h k = record { ofX = sum-upward h.ofX k.ofX; ofY = sum-upward h.ofY k.ofY; of_z = sum-upward h.of_z k.of_z }
+both-upward h k = record { of_x = sum-upward h.of_x k.of_x; of_y = sum-upward h.of_y k.of_y; of_z = sum-upward h.of_z k.of_z }
 
 naturals : (a b c : ℕ) → NonNegative (vector (pos a) (pos b) (pos c))
-naturals a b c = record { ofX = omega (arith, parts); ofY = omega (arith, parts); of_z = omega (arith, parts) }
+naturals a b c = record { of_x = omega (arith, parts); of_y = omega (arith, parts); of_z = omega (arith, parts) }
 
 pub units-tame : Tame units
 unfolding det dot cross
@@ -98,7 +98,7 @@ unfolding normal ◌⊕◌ det dot cross
 tame-normal m t =
     let b = crosses m in let up = t.upward in
     record {
-      ofX = not-all-zero b.m0.x b.m1.x b.m2.x m.m0.x m.m1.x m.m2.x t.unimodular (byring (of9 m) (search sides depth 40 fits 5000) tt) up.of0.ofX up.of1.ofX up.of2.ofX;
-      ofY = not-all-zero b.m0.y b.m1.y b.m2.y m.m0.y m.m1.y m.m2.y t.unimodular (byring (of9 m) (search sides depth 40 fits 5000) tt) up.of0.ofY up.of1.ofY up.of2.ofY;
+      of_x = not-all-zero b.m0.x b.m1.x b.m2.x m.m0.x m.m1.x m.m2.x t.unimodular (byring (of9 m) (search sides depth 40 fits 5000) tt) up.of0.of_x up.of1.of_x up.of2.of_x;
+      of_y = not-all-zero b.m0.y b.m1.y b.m2.y m.m0.y m.m1.y m.m2.y t.unimodular (byring (of9 m) (search sides depth 40 fits 5000) tt) up.of0.of_y up.of1.of_y up.of2.of_y;
       of_z = not-all-zero b.m0.z b.m1.z b.m2.z m.m0.z m.m1.z m.m2.z t.unimodular (byring (of9 m) (search sides depth 40 fits 5000) tt) up.of0.of_z up.of1.of_z up.of2.of_z;
     }

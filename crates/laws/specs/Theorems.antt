@@ -23,15 +23,15 @@ use Rattle.rules.specs.declared.Pick.{Pick}
 use Rattle.rules.specs.declared.Pick.TheVariants.{Accepted, Refused}
 use Rattle.rules.specs.declared.Touch.TheVariants.{Guess, Refused as TouchRefused}
 use Rattle.rules.specs.Vectors.{◌⊕◌, scale, dot, lay}
-use Rattle.rules.specs.Solids.{box, inBox, permitted, look}
+use Rattle.rules.specs.Solids.{box, in_box, permitted, look}
 use Rattle.rules.specs.Asked.{answered}
-use Rattle.rules.specs.Walk.{signs, powers, Axis, axis0, axis1, axis2, unit, units, vectorOf, pairs, second, way, step, levels, level, keep, only, remaining, takesPart, determinant, inside, choice, Probe, corner, laid, falling, round, walk}
-use Rattle.rules.specs.Pick.{isInside, probe, pick, pick_of}
+use Rattle.rules.specs.Walk.{signs, powers, Axis, axis0, axis1, axis2, unit, units, vector_of, pairs, second, way, step, levels, level, keep, only, remaining, takes_part, determinant, inside, choice, Probe, corner, laid, falling, round, walk}
+use Rattle.rules.specs.Pick.{is_inside, probe, pick, pick_of}
 use Rattle.rules.specs.Touch.{nearer, touch_of}
-use Rattle.rules.specs.Lean.{is_zero, levelsOf}
+use Rattle.rules.specs.Lean.{is_zero, levels_of}
 use Rattle.laws.specs.Tests.{In}
 use Rattle.laws.specs.Parts.{NonNegative, Positive, part, parts-by}
-use Rattle.laws.specs.Triples.{All, all-by, detOf, step-det}
+use Rattle.laws.specs.Triples.{All, all-by, det_of, step-det}
 use Rattle.laws.specs.Levels as Levels
 use Rattle.laws.specs.Levels.{levels-of, levels-eq}
 use Rattle.laws.specs.Flat.{product}
@@ -46,10 +46,10 @@ use Rattle.laws.specs.Powers as Powers
 use Rattle.laws.specs.Powers.{UpTo, few-looks}
 use Rattle.laws.specs.Bounds.{Bounded}
 use Rattle.laws.specs.Boxes as Boxes
-use Rattle.laws.specs.Boxes.{outside-box, probeOn}
+use Rattle.laws.specs.Boxes.{outside-box, probe_on}
 use Rattle.laws.specs.Next.{LevelsAnswered, Reached, NextLook}
 use Rattle.laws.specs.Axes.{levels-answered}
-use Rattle.laws.specs.Answered.{voxelsOf}
+use Rattle.laws.specs.Answered.{voxels_of}
 use Rattle.laws.specs.Ended as Ended
 use Rattle.laws.specs.Ended.{Stood, EndsIfNoneFalls, end-stood}
 use Rattle.laws.specs.PickParts.{PickParts, pick-parts}
@@ -57,7 +57,7 @@ use Rattle.laws.specs.BothWays.{BothWays, parts-levels, levels-looked, sides-loo
 use Rattle.laws.specs.Rounds.{WalkFound}
 use Rattle.laws.specs.Picks.{Accepting}
 use Rattle.laws.specs.Answers as Answers
-use Rattle.laws.specs.Answers.{steps_of, looksOf, foundOf, stopOf, voxels-counted, accepted-answer, accepted-tells, refused-tells, few-steps, found-determinant, found-products, found-generated, found-signs, found-levels, found-steps, found-stays}
+use Rattle.laws.specs.Answers.{steps_of, looks_of, found_of, stop_of, voxels-counted, accepted-answer, accepted-tells, refused-tells, few-steps, found-determinant, found-products, found-generated, found-signs, found-levels, found-steps, found-stays}
 use Rattle.laws.specs.Corners as Corners
 use Rattle.laws.specs.Corners.{CornerEmpty, nth}
 use Rattle.laws.specs.Touches.{NextTouch}
@@ -70,17 +70,17 @@ pub powers-reach : (R : ℕ) → UpTo R 1 (powers R)
 powers-reach = Powers.powers-reach
 
 -- ---- the triangle's determinant is 1 at the beginning, and every step keeps it
-pub units-determinant : detOf units ≡ pos 1
+pub units-determinant : det_of units ≡ pos 1
 units-determinant = units-tame.unimodular
 
-pub step-determinant : (m : Triangle) (x : Pair) → detOf (step m x) ≡ detOf m
+pub step-determinant : (m : Triangle) (x : Pair) → det_of (step m x) ≡ det_of m
 step-determinant = step-det
 
 -- ---- the choice: document 01's determinant is twice a difference of weights, a pair's weight being m_l·(m_l - m_k), so strictly inside is a smaller weight
-pub determinant-is : (m : Triangle) (x y : Pair) → detOf m ≡ pos 1 → determinant m x y ≡ pos 2 *ℤ (dot (second m y) (way m y) -ℤ dot (second m x) (way m x))
+pub determinant-is : (m : Triangle) (x y : Pair) → det_of m ≡ pos 1 → determinant m x y ≡ pos 2 *ℤ (dot (second m y) (way m y) -ℤ dot (second m x) (way m x))
 determinant-is = Sphere.determinant-is
 
-pub inside-by-weight : (m : Triangle) → detOf m ≡ pos 1 → (x y : Pair) → inside m x y ≡ lt_z (weight m y) (weight m x)
+pub inside-by-weight : (m : Triangle) → det_of m ≡ pos 1 → (x y : Pair) → inside m x y ≡ lt_z (weight m y) (weight m x)
 inside-by-weight = Sphere.inside-by-weight
 
 -- and a weight stays far below 2^31, with parts within 1023 (below)
@@ -88,18 +88,18 @@ pub weight-fits : (m : Triangle) → All (Bounded 1023) m → (x : Pair) → Wit
 weight-fits = Sphere.weight-fits
 
 -- a pair is always chosen when one falls, and no pair is inside its own sphere
-pub choice-exists : (m : Triangle) → detOf m ≡ pos 1 → (falling : List Pair) → choice m falling ≡ Nothing → falling ≡ []
+pub choice-exists : (m : Triangle) → det_of m ≡ pos 1 → (falling : List Pair) → choice m falling ≡ Nothing → falling ≡ []
 choice-exists = Choosing.choice-exists
 
-pub not-inside-itself : (m : Triangle) → detOf m ≡ pos 1 → (x : Pair) → inside m x x ≡ false
+pub not-inside-itself : (m : Triangle) → det_of m ≡ pos 1 → (x : Pair) → inside m x x ≡ false
 not-inside-itself = Choosing.not-inside-itself
 
 -- the best of the falling pairs, each taken where it is strictly inside the best one's sphere so far, is the choice
-pub best-is-choice : (m : Triangle) → detOf m ≡ pos 1 → (falling : List Pair) → best m Nothing falling ≡ choice m falling
+pub best-is-choice : (m : Triangle) → det_of m ≡ pos 1 → (falling : List Pair) → best m Nothing falling ≡ choice m falling
 best-is-choice = Choosing.best-is-choice
 
 -- ---- every triangle that a walk of the pairs ps meets has determinant 1, whatever follows
-pub reached-determinant : (c : Probe) (ps : List Pair) (n : ℕ) (m : Triangle) → Reached c ps n m → detOf m ≡ pos 1
+pub reached-determinant : (c : Probe) (ps : List Pair) (n : ℕ) (m : Triangle) → Reached c ps n m → det_of m ≡ pos 1
 reached-determinant = Ended.reached-determinant
 
 -- so the definition's walk ends exactly if no pair falls: where the round at such a triangle was answered and none of the pairs fell it ends there, and it ends there only so;
@@ -118,12 +118,12 @@ pub units-within : All (Bounded 1023) units
 units-within = Boxes.units-within
 
 pub triangle-within : (solid : Solid) (bytes : List ℕ) (q s : Vector) (R : ℕ) (ps : List Pair) (m : Triangle) {y : Choice} {t : List Vector}
-    → T (permitted solid bytes) → T (isInside (look solid bytes q)) → Signs s → round (probeOn solid bytes q s R) ps m ≡ answered y t
+    → T (permitted solid bytes) → T (is_inside (look solid bytes q)) → Signs s → round (probe_on solid bytes q s R) ps m ≡ answered y t
     → All (Bounded 1023) m → (x : Pair) → In x ps → All (Bounded 1023) (step m x)
 triangle-within solid bytes q s R ps m ok inside signed = Boxes.triangle-within solid bytes q s R ps m ok inside signed
 
 -- ---- with r remaining axes r(r - 1) pairs take part
-pub pairs-taking : (v : Levels) → length (only (takesPart v) pairs) ≡ length (remaining v) * (length (remaining v) - 1)
+pub pairs-taking : (v : Levels) → length (only (takes_part v) pairs) ≡ length (remaining v) * (length (remaining v) - 1)
 pairs-taking = Levels.pairs-taking
 
 module _ (solid : Solid) (bytes : List ℕ) (p : Vector) (frame reach : ℤ) where
@@ -145,26 +145,26 @@ module _ (solid : Solid) (bytes : List ℕ) (p : Vector) (frame reach : ℤ) whe
   pub steps-at-most : steps_of (pick_of solid bytes p frame reach) ≤ nat_abs reach - 2
   steps-at-most = few-steps solid bytes p frame reach
 
-  pub looks-at-most : looksOf (pick_of solid bytes p frame reach) ≤ 2 + K * (6 * max (nat_abs reach) 3 - 9)
+  pub looks-at-most : looks_of (pick_of solid bytes p frame reach) ≤ 2 + K * (6 * max (nat_abs reach) 3 - 9)
   looks-at-most = Answers.few-looks solid bytes p frame reach _ (λ _. NatL.le_refl _)
 
-  pub looks-at-most-from-3 : 3 ≤ nat_abs reach → looksOf (pick_of solid bytes p frame reach) ≤ 2 + K * (6 * nat_abs reach - 9)
+  pub looks-at-most-from-3 : 3 ≤ nat_abs reach → looks_of (pick_of solid bytes p frame reach) ≤ 2 + K * (6 * nat_abs reach - 9)
   looks-at-most-from-3 h = let e : max R 3 ≡ R = omega (arith, h) in rw e at looks-at-most
 
-  pub looks-at-most-13745 : looksOf (pick_of solid bytes p frame reach) ≤ 13745
+  pub looks-at-most-13745 : looks_of (pick_of solid bytes p frame reach) ≤ 13745
   looks-at-most-13745 = Answers.few-looks solid bytes p frame reach 13745 (λ h. few-looks R (max R 3) h (omega arith))
 
   -- the voxels that the pick looks at, in order
-  abbrev pub lookedAt : List Vector
-  lookedAt = voxelsOf (pick (permitted solid bytes) (look solid bytes) p frame reach)
+  abbrev pub looked_at : List Vector
+  looked_at = voxels_of (pick (permitted solid bytes) (look solid bytes) p frame reach)
 
-  pub looked-counted : looksOf (pick_of solid bytes p frame reach) ≡ length lookedAt
+  pub looked-counted : looks_of (pick_of solid bytes p frame reach) ≡ length looked_at
   unfolding pick_of
   looked-counted = voxels-counted (pick (permitted solid bytes) (look solid bytes) p frame reach)
 
   -- u and its opposite from q: at each power the voxel there is one of those, and empty
   abbrev pub LookedBothWays : Vector → Type 0
-  LookedBothWays = BothWays (probe (look solid bytes) p frame reach) lookedAt
+  LookedBothWays = BothWays (probe (look solid bytes) p frame reach) looked_at
 
   -- each axis was asked, and v has those that are level
   abbrev pub Answered : Levels → Type 0
@@ -172,17 +172,17 @@ module _ (solid : Solid) (bytes : List ℕ) (p : Vector) (frame reach : ℤ) whe
 
   -- ---- an accepted pick
   module _ (a : AcceptedPick) (is : pick_of solid bytes p frame reach ≡ Accepted a) where
-    abbrev accepting : Accepting (probe (look solid bytes) p frame reach) (nat_abs reach) (foundOf a)
+    abbrev accepting : Accepting (probe (look solid bytes) p frame reach) (nat_abs reach) (found_of a)
     accepting = (accepted-tells solid bytes p frame reach a is).accepting
 
-    abbrev walked : WalkFound (probe (look solid bytes) p frame reach) (nat_abs reach) accepting.level (foundOf a)
+    abbrev walked : WalkFound (probe (look solid bytes) p frame reach) (nat_abs reach) accepting.level (found_of a)
     walked = accepting.walked
 
     abbrev signed : Signs (signs (nat_abs frame))
     signed = signs-are (nat_abs frame)
 
     -- an axis is level exactly if the normal's part is 0
-    pub accepted-levels : Answered (levelsOf a.normal)
+    pub accepted-levels : Answered (levels_of a.normal)
     accepted-levels = subst (LevelsAnswered c) (found-levels walked signed) (levels-answered c accepting.asked)
 
     -- the other parts have the frame's sign
@@ -190,41 +190,41 @@ module _ (solid : Solid) (bytes : List ℕ) (p : Vector) (frame reach : ℤ) whe
     accepted-signs = found-signs walked signed
 
     -- a level axis's vector stays the unit vector, laid in
-    pub accepted-stays : (k : Axis) → T (level (levelsOf a.normal) k) → vectorOf a.triangle k ≡ lay s (unit k)
+    pub accepted-stays : (k : Axis) → T (level (levels_of a.normal) k) → vector_of a.triangle k ≡ lay s (unit k)
     accepted-stays = found-stays walked signed
 
     -- steps: at most the reach less the remaining axes
-    pub accepted-steps : a.steps ≤ nat_abs reach - length (remaining (levelsOf a.normal))
+    pub accepted-steps : a.steps ≤ nat_abs reach - length (remaining (levels_of a.normal))
     accepted-steps = found-steps walked signed
 
     -- the triangle has determinant 1 in the frame; the normal's product is 0 with the vector of a level axis and 1 with every other
-    pub accepted-determinant : detOf (laid s a.triangle) ≡ pos 1
+    pub accepted-determinant : det_of (laid s a.triangle) ≡ pos 1
     accepted-determinant = found-determinant walked signed
 
-    pub accepted-products : (k : Axis) → dot a.normal (vectorOf a.triangle k) ≡ product (level (levelsOf a.normal) k)
+    pub accepted-products : (k : Axis) → dot a.normal (vector_of a.triangle k) ≡ product (level (levels_of a.normal) k)
     accepted-products = found-products walked signed
 
     -- the level vectors and the sides between the other corners generate every whole vector of the plane
-    pub accepted-generated : (v : Vector) → dot a.normal v ≡ pos 0 → Combines (generators (levelsOf a.normal) a.triangle) v
+    pub accepted-generated : (v : Vector) → dot a.normal v ≡ pos 0 → Combines (generators (levels_of a.normal) a.triangle) v
     accepted-generated = found-generated walked signed
 
-    parts-here : PickParts c (nat_abs reach) (foundOf a) lookedAt
+    parts-here : PickParts c (nat_abs reach) (found_of a) looked_at
     unfolding pick_of
     parts-here = pick-parts _ _ p frame reach (accepted-answer (pick (permitted solid bytes) (look solid bytes) p frame reach) is)
 
-    levels-here : parts-here.levels ≡ levelsOf a.normal
+    levels-here : parts-here.levels ≡ levels_of a.normal
     levels-here = parts-levels c parts-here accepted-levels
 
     -- it has looked both ways from q, at every power, so at the last: along each level axis, and along each side between two other corners
-    pub level-both-ways : (k : Axis) → T (level (levelsOf a.normal) k) → LookedBothWays (lay s (unit k))
+    pub level-both-ways : (k : Axis) → T (level (levels_of a.normal) k) → LookedBothWays (lay s (unit k))
     level-both-ways k l = levels-looked c parts-here k (rw levels-here l)
 
-    pub sides-both-ways : (x : Pair) → T (takesPart (levelsOf a.normal) x) → LookedBothWays (way a.triangle x)
+    pub sides-both-ways : (x : Pair) → T (takes_part (levels_of a.normal) x) → LookedBothWays (way a.triangle x)
     sides-both-ways x takes = sides-looked c parts-here.walk x (rw levels-here takes)
 
     -- with no level axis, as document 01 has it
     module _ (none : (k : Axis) → is_zero (part k a.normal) ≡ false) where
-      unlevel : levelsOf a.normal ≡ levels false false false
+      unlevel : levels_of a.normal ≡ levels false false false
       unlevel = λ i. levels (none axis0 i) (none axis1 i) (none axis2 i)
 
       pub base-signs : Positive (lay s a.normal)
@@ -238,7 +238,7 @@ module _ (solid : Solid) (bytes : List ℕ) (p : Vector) (frame reach : ℤ) whe
 
   -- ---- a refused pick that took a step had asked the axes: at most the reach less those that remain
   pub refused-steps : (r : RefusedPick) → pick_of solid bytes p frame reach ≡ Refused r → 1 ≤ r.steps → (v : Levels) × Answered v × (r.steps ≤ nat_abs reach - length (remaining v))
-  refused-steps r is h = let a = (refused-tells solid bytes p frame reach r is).fewSteps.asked h in (a.0, levels-answered c a.1, a.2)
+  refused-steps r is h = let a = (refused-tells solid bytes p frame reach r is).few_steps.asked h in (a.0, levels-answered c a.1, a.2)
 
   -- so with no level axis at most R - 3, refused or accepted, as document 01 has it
   pub base-steps-at-most : Answered (levels false false false) → steps_of (pick_of solid bytes p frame reach) ≤ nat_abs reach - 3
@@ -252,7 +252,7 @@ module _ (solid : Solid) (bytes : List ℕ) (p : Vector) (frame reach : ℤ) whe
       three n v h k = subst (λ (v : Levels). n ≤ nat_abs reach - length (remaining v)) (same v h) k
 
       go : (x : Pick) → pick_of solid bytes p frame reach ≡ x → steps_of x ≤ nat_abs reach - 3
-      go (Accepted a) is = three a.steps (levelsOf a.normal) (accepted-levels a is) (accepted-steps a is)
+      go (Accepted a) is = three a.steps (levels_of a.normal) (accepted-levels a is) (accepted-steps a is)
       go (Refused r) is = refused r.steps (refused-steps r is)
         where
           refused : (n : ℕ) → (1 ≤ n → (v : Levels) × Answered v × (n ≤ nat_abs reach - length (remaining v))) → n ≤ nat_abs reach - 3
@@ -260,10 +260,10 @@ module _ (solid : Solid) (bytes : List ℕ) (p : Vector) (frame reach : ℤ) whe
           refused (suc n) h = let a = h (omega arith) in three (suc n) a.0 a.1 a.2
 
   -- ---- refusal 8 is given at the voxel that was to be looked at next, and that lies outside the box
-  pub refused-next : (r : RefusedPick) → pick_of solid bytes p frame reach ≡ Refused r → r.number ≡ 8 → NextLook (probe (look solid bytes) p frame reach) (stopOf r)
+  pub refused-next : (r : RefusedPick) → pick_of solid bytes p frame reach ≡ Refused r → r.number ≡ 8 → NextLook (probe (look solid bytes) p frame reach) (stop_of r)
   refused-next r is e = (refused-tells solid bytes p frame reach r is).next e
 
-  pub refused-outside : (r : RefusedPick) → pick_of solid bytes p frame reach ≡ Refused r → r.number ≡ 8 → T (not (inBox (box solid) r.place))
+  pub refused-outside : (r : RefusedPick) → pick_of solid bytes p frame reach ≡ Refused r → r.number ≡ 8 → T (not (in_box (box solid) r.place))
   refused-outside r is e = outside-box solid bytes r.place (refused-next r is e).outside
 
   -- the refusals of a pick are 1 to 10
@@ -275,17 +275,17 @@ module _ (solid : Solid) (bytes : List ℕ) (p : Vector) (frame reach : ℤ) whe
   d = nearer (probe (look solid bytes) p frame reach)
 
   -- where p and q lie in the box each corner does, so none gives 8
-  pub corner-inside : T (isInside (look solid bytes p)) → T (isInside (look solid bytes d.apex)) → (k : Axis) → T (isInside (look solid bytes (corner d (unit k))))
+  pub corner-inside : T (is_inside (look solid bytes p)) → T (is_inside (look solid bytes d.apex)) → (k : Axis) → T (is_inside (look solid bytes (corner d (unit k))))
   corner-inside = Corners.corner-inside solid bytes p s
 
   -- at most R - 3 steps, and six looks for each round after the first five; all of them where it is accepted
   pub touch-steps-at-most : steps_of (unmarked (touch_of solid bytes p frame reach)) ≤ nat_abs reach - 3
   touch-steps-at-most = Touched.few-steps solid bytes p frame reach
 
-  pub touch-looks-at-most : looksOf (unmarked (touch_of solid bytes p frame reach)) ≤ 5 + 6 * suc (steps_of (unmarked (touch_of solid bytes p frame reach)))
+  pub touch-looks-at-most : looks_of (unmarked (touch_of solid bytes p frame reach)) ≤ 5 + 6 * suc (steps_of (unmarked (touch_of solid bytes p frame reach)))
   touch-looks-at-most = Touched.few-looks solid bytes p frame reach
 
-  pub touch-looks-at-most-1529 : looksOf (unmarked (touch_of solid bytes p frame reach)) ≤ 1529
+  pub touch-looks-at-most-1529 : looks_of (unmarked (touch_of solid bytes p frame reach)) ≤ 1529
   touch-looks-at-most-1529 = Touched.most-looks solid bytes p frame reach
 
   pub guess-looks : (a : AcceptedPick) → touch_of solid bytes p frame reach ≡ Guess a → a.looks ≡ 5 + 6 * suc a.steps
@@ -297,14 +297,14 @@ module _ (solid : Solid) (bytes : List ℕ) (p : Vector) (frame reach : ℤ) whe
     touch-number = Touched.refused-known solid bytes p frame reach r is
 
     -- 8 is given at the way of a pair, from q, that was to be looked at next and lies outside the box: never at a corner
-    pub touch-next : r.number ≡ 8 → NextTouch d (stopOf r)
+    pub touch-next : r.number ≡ 8 → NextTouch d (stop_of r)
     touch-next = Touched.refused-next solid bytes p frame reach r is
 
-    pub touch-outside : r.number ≡ 8 → T (not (inBox (box solid) r.place))
+    pub touch-outside : r.number ≡ 8 → T (not (in_box (box solid) r.place))
     touch-outside e = outside-box solid bytes r.place (touch-next e).outside
 
     -- 11 at the lowest corner that isn't filled, after the looks at p, q and the corners up to it
-    pub touch-corner : r.number ≡ 11 → (h : CornerEmpty d (stopOf r)) × (r.looks ≡ 2 + nth h.axis)
+    pub touch-corner : r.number ≡ 11 → (h : CornerEmpty d (stop_of r)) × (r.looks ≡ 2 + nth h.axis)
     touch-corner = Touched.refused-corner solid bytes p frame reach r is
 
 -- ---- on a stack no pick of a reach above 64 is accepted

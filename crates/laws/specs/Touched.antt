@@ -16,7 +16,7 @@ use Rattle.rules.specs.Pick.{probe, answer}
 use Rattle.rules.specs.Touch.{nearer, touch, marked, touch_of}
 use Rattle.laws.specs.Says.{Says}
 use Rattle.laws.specs.Corners.{CornerEmpty, nth, corner-inside}
-use Rattle.laws.specs.Answers.{steps_of, looksOf, stopOf, AnswerSays, answer-says}
+use Rattle.laws.specs.Answers.{steps_of, looks_of, stop_of, AnswerSays, answer-says}
 use Rattle.laws.specs.Touches.{NextTouch, TouchStop, TouchFound, touch-says}
 
 -- a touch without its mark
@@ -47,39 +47,39 @@ module _ (solid : Solid) (bytes : List ℕ) (p : Vector) (frame reach : ℤ) whe
   few-steps = go (unmarked (touch_of solid bytes p frame reach)) tells
     where
       go : (x : Pick) → AnswerSays (TouchFound R) (TouchStop c R) x → steps_of x ≤ R - 3
-      go (Accepted a) h = h.1.fewSteps
-      go (Refused r) h = h.1.fewSteps
+      go (Accepted a) h = h.1.few_steps
+      go (Refused r) h = h.1.few_steps
 
-  pub few-looks : looksOf (unmarked (touch_of solid bytes p frame reach)) ≤ 5 + 6 * suc (steps_of (unmarked (touch_of solid bytes p frame reach)))
+  pub few-looks : looks_of (unmarked (touch_of solid bytes p frame reach)) ≤ 5 + 6 * suc (steps_of (unmarked (touch_of solid bytes p frame reach)))
   few-looks = go (unmarked (touch_of solid bytes p frame reach)) tells
     where
-      go : (x : Pick) → AnswerSays (TouchFound R) (TouchStop c R) x → looksOf x ≤ 5 + 6 * suc (steps_of x)
+      go : (x : Pick) → AnswerSays (TouchFound R) (TouchStop c R) x → looks_of x ≤ 5 + 6 * suc (steps_of x)
       go (Accepted a) h = omega (arith, h.1.counted, h.2)
       go (Refused r) h = omega (arith, h.1.few, h.2)
 
-  pub most-looks : looksOf (unmarked (touch_of solid bytes p frame reach)) ≤ 1529
+  pub most-looks : looks_of (unmarked (touch_of solid bytes p frame reach)) ≤ 1529
   most-looks = go (unmarked (touch_of solid bytes p frame reach)) tells
     where
-      by-steps : (r : RefusedPick) (t : List Vector) → TouchStop c R (stopOf r) t → (r.steps ≡ 0) ⊎ (R ≤ 256) → length t ≤ 1529
+      by-steps : (r : RefusedPick) (t : List Vector) → TouchStop c R (stop_of r) t → (r.steps ≡ 0) ⊎ (R ≤ 256) → length t ≤ 1529
       by-steps r t h (inl e) = omega (arith, h.few, e)
-      by-steps r t h (inr e) = omega (arith, h.few, h.fewSteps, e)
+      by-steps r t h (inr e) = omega (arith, h.few, h.few_steps, e)
 
-      go : (x : Pick) → AnswerSays (TouchFound R) (TouchStop c R) x → looksOf x ≤ 1529
-      go (Accepted a) h = omega (arith, h.1.counted, h.1.fewSteps, h.1.small, h.2)
+      go : (x : Pick) → AnswerSays (TouchFound R) (TouchStop c R) x → looks_of x ≤ 1529
+      go (Accepted a) h = omega (arith, h.1.counted, h.1.few_steps, h.1.small, h.2)
       go (Refused r) h = omega (arith, by-steps r h.0 h.1 h.1.small, h.2)
 
   pub guess-looks : (a : AcceptedPick) → touch_of solid bytes p frame reach ≡ Guess a → a.looks ≡ 5 + 6 * suc a.steps
   guess-looks a e = let h = subst (λ (t : Touch). AnswerSays (TouchFound R) (TouchStop c R) (unmarked t)) e tells in omega (arith, h.1.counted, h.2)
 
   module _ (r : RefusedPick) (is : touch_of solid bytes p frame reach ≡ TouchRefused r) where
-    refused : (t : List Vector) × TouchStop c R (stopOf r) t × (r.looks ≡ length t)
+    refused : (t : List Vector) × TouchStop c R (stop_of r) t × (r.looks ≡ length t)
     refused = subst (λ (t : Touch). AnswerSays (TouchFound R) (TouchStop c R) (unmarked t)) is tells
 
     pub refused-known : (1 ≤ r.number) × (r.number ≤ 11) × (r.number ≡ 7 → ⊥)
     refused-known = refused.1.known
 
-    pub refused-next : r.number ≡ 8 → NextTouch (nearer (probe (look solid bytes) p frame reach)) (stopOf r)
+    pub refused-next : r.number ≡ 8 → NextTouch (nearer (probe (look solid bytes) p frame reach)) (stop_of r)
     refused-next e = refused.1.next e
 
-    pub refused-corner : r.number ≡ 11 → (h : CornerEmpty (nearer (probe (look solid bytes) p frame reach)) (stopOf r)) × (r.looks ≡ 2 + nth h.axis)
+    pub refused-corner : r.number ≡ 11 → (h : CornerEmpty (nearer (probe (look solid bytes) p frame reach)) (stop_of r)) × (r.looks ≡ 2 + nth h.axis)
     refused-corner e = let z = refused.1.corner e in (z.0, omega (arith, z.1, refused.2))

@@ -18,8 +18,8 @@ use Rattle.rules.specs.declared.Choice.{Choice}
 use Rattle.rules.specs.declared.Choice.TheVariants.{Nothing, Chosen}
 use Rattle.rules.specs.Vectors.{◌⊕◌, lay}
 use Rattle.rules.specs.Asked.{answered, refused}
-use Rattle.rules.specs.Walk.{Stop, stop, Axis, axis0, axis1, axis2, unit, units, pairs, way, step, keep, only, remaining, takesPart, noneLevel, choice, Probe, Found, fallsAt, falls, corner, allCorners, falling, round, walk, rounds, found}
-use Rattle.rules.specs.Pick.{isInside, probe}
+use Rattle.rules.specs.Walk.{Stop, stop, Axis, axis0, axis1, axis2, unit, units, pairs, way, step, keep, only, remaining, takes_part, none_level, choice, Probe, Found, falls_at, falls, corner, all_corners, falling, round, walk, rounds, found}
+use Rattle.rules.specs.Pick.{is_inside, probe}
 use Rattle.rules.specs.Touch.{nearer, touch}
 use Rattle.range.specs.Ranges.{between-naturals}
 use Rattle.laws.specs.Parts.{scale_one}
@@ -31,11 +31,11 @@ use Rattle.laws.specs.Corners.{FirstEmpty, CornerEmpty, nth, nth-most, corner-em
 use Rattle.laws.specs.PickRule.{Passed, PickRule, touch-by-rule}
 
 -- ---- no axis is level: all six pairs, and three axes remain
-pub all_take : only (takesPart noneLevel) pairs ≡ pairs
-unfolding only keep takesPart
+pub all_take : only (takes_part none_level) pairs ≡ pairs
+unfolding only keep takes_part
 all_take = refl
 
-pub three-remain : length (remaining noneLevel) ≡ 3
+pub three-remain : length (remaining none_level) ≡ 3
 unfolding remaining only keep
 three-remain = refl
 
@@ -45,7 +45,7 @@ module _ (b : Probe) where
   c = nearer b
 
   falls-one : (u : Vector) → Says (λ f t. length t ≡ 1) (λ p t. length t ≤ 1) (falls c u)
-  unfolding fallsAt
+  unfolding falls_at
   falls-one u = says-bind {G = λ p t. length t ≤ 1} _ _ (says-weaker _ (λ f t h. h) (λ p t h. rw h.2 (omega arith)) (look-says c _)) (λ p t h. h) (λ f t h. rw h.1 (go f))
     where
       go : (f : Bool) → Says {E = Vector} {A = Bool} (λ f t. suc (length t) ≡ 1) (λ p t. suc (length t) ≤ 1) (elim f [ true ↦ answered true [] | false ↦ answered false [] ])
@@ -96,7 +96,7 @@ pub record NextTouch (c : Probe) (r : Stop) : Type 0 where
   pub outside : c.look r.place ≡ Outside
 
 pub next-touch : (b : Probe) (n : ℕ) (m : Triangle) (p : Vector) → Reached (nearer b) pairs n m → StoppedOf (nearer b) m pairs p → NextTouch (nearer b) (stop 8 p n)
-next-touch b n m p h o = go o.stopped.beyond.isPower
+next-touch b n m p h o = go o.stopped.beyond.is_power
   where
     go : (o.stopped.beyond.power ≡ 1) ⊎ ⊥ → NextTouch (nearer b) (stop 8 p n)
     go (inl e) = record {
@@ -112,7 +112,7 @@ next-touch b n m p h o = go o.stopped.beyond.isPower
 -- ---- what a touch tells
 -- a refusal, with the voxels looked at
 pub record TouchStop (c : Probe) (R : ℕ) (r : Stop) (t : List Vector) : Type 0 where
-  pub fewSteps : r.steps ≤ R - 3
+  pub few_steps : r.steps ≤ R - 3
   pub small : (r.steps ≡ 0) ⊎ (R ≤ 256)
   pub few : length t ≤ 5 + 6 * suc r.steps
   pub known : (1 ≤ r.number) × (r.number ≤ 11) × (r.number ≡ 7 → ⊥)
@@ -121,7 +121,7 @@ pub record TouchStop (c : Probe) (R : ℕ) (r : Stop) (t : List Vector) : Type 0
 
 -- what was found
 pub record TouchFound (R : ℕ) (f : Found) (t : List Vector) : Type 0 where
-  pub fewSteps : f.steps ≤ R - 3
+  pub few_steps : f.steps ≤ R - 3
   pub small : R ≤ 256
   pub counted : length t ≡ 5 + 6 * suc f.steps
 
@@ -138,7 +138,7 @@ module _ (ok : Bool) (look : Vector → Look) (p : Vector) (frame reach : ℤ) w
   -- before the first step, and neither 7, 8 nor 11
   at_once : (number : ℕ) (a : Vector) (t : List Vector) → (1 ≤ number) × (number ≤ 6) → length t ≤ 11 → Stops (stop number a 0) t
   at_once number a t h l = record {
-    fewSteps = omega arith;
+    few_steps = omega arith;
     small = inl refl;
     few = omega (arith, l);
     known = (h.0, omega (arith, h.1), λ e. absurd (omega (arith, h.1, e)));
@@ -147,8 +147,8 @@ module _ (ok : Bool) (look : Vector → Look) (p : Vector) (frame reach : ℤ) w
   }
 
   record Kept (left r n : ℕ) (m : Triangle) : Type 0 where
-    isLeft : r ≡ left
-    fewSteps : n + left ≤ R - 3
+    is_left : r ≡ left
+    few_steps : n + left ≤ R - 3
     reached : Reached d pairs n m
 
   abbrev StopsWalk : Stop → Type 0
@@ -156,22 +156,22 @@ module _ (ok : Bool) (look : Vector → Look) (p : Vector) (frame reach : ℤ) w
 
   every-walk : WalkRule d pairs Kept (λ e. e.1 ≤ R - 3) StopsWalk
   every-walk = record {
-    outside = λ left r n m a h o. (omega (arith, h.fewSteps), inl refl, λ _. next-touch (probe look p frame reach) n m a h.reached o);
-    ends = λ left r n m h w. omega (arith, h.fewSteps);
-    stops = λ r n m x h w. (omega (arith, h.fewSteps), inr refl, λ e. absurd (omega (arith, e)));
-    steps = λ left r n m x h w. (left, omega (arith, h.isLeft), record { isLeft = refl; fewSteps = omega (arith, h.fewSteps); reached = (m, x, h.reached, w, refl) });
+    outside = λ left r n m a h o. (omega (arith, h.few_steps), inl refl, λ _. next-touch (probe look p frame reach) n m a h.reached o);
+    ends = λ left r n m h w. omega (arith, h.few_steps);
+    stops = λ r n m x h w. (omega (arith, h.few_steps), inr refl, λ e. absurd (omega (arith, e)));
+    steps = λ left r n m x h w. (left, omega (arith, h.is_left), record { is_left = refl; few_steps = omega (arith, h.few_steps); reached = (m, x, h.reached, w, refl) });
   }
 
-  rounds-say : Says (λ e t. (e.1 ≤ R - 3) × (length t ≡ 6 * suc e.1)) (λ r t. StopsWalk r × (length t ≤ 6 * suc r.steps)) (rounds d R noneLevel)
+  rounds-say : Says (λ e t. (e.1 ≤ R - 3) × (length t ≡ 6 * suc e.1)) (λ r t. StopsWalk r × (length t ≤ 6 * suc r.steps)) (rounds d R none_level)
   unfolding rounds
   rounds-say =
       rw (all_take, three-remain)
       (says-weaker _ (λ e t h. (h.0.holds, omega (arith, h.1.1))) (λ r t h. (h.0.holds, omega (arith, h.1.1)))
-      (says_both _ (walk-says d pairs every-walk (R - 3) (R - 3) 0 units (record { isLeft = refl; fewSteps = omega arith; reached = refl })) (walk-counted (probe look p frame reach) (R - 3) 0 units)))
+      (says_both _ (walk-says d pairs every-walk (R - 3) (R - 3) 0 units (record { is_left = refl; few_steps = omega arith; reached = refl })) (walk-counted (probe look p frame reach) (R - 3) 0 units)))
 
   walk-stop : R ≤ 256 → (r : Stop) (t s : List Vector) → length t ≡ 5 → StopsWalk r × (length s ≤ 6 * suc r.steps) → Stops r (t ++ s)
   walk-stop small r t s five h = record {
-    fewSteps = h.0.0;
+    few_steps = h.0.0;
     small = inr small;
     few = omega (arith, five, h.1, length-append t s);
     known = go h.0.1;
@@ -188,15 +188,15 @@ module _ (ok : Bool) (look : Vector → Look) (p : Vector) (frame reach : ℤ) w
       not-eleven (inr e) k = omega (arith, e, k)
 
   -- the corners lie in the box
-  module _ (inside : T (isInside (look p)) → T (isInside (look (probe look p frame reach).apex)) → (k : Axis) → T (isInside (look (corner (nearer (probe look p frame reach)) (unit k))))) where
+  module _ (inside : T (is_inside (look p)) → T (is_inside (look (probe look p frame reach).apex)) → (k : Axis) → T (is_inside (look (corner (nearer (probe look p frame reach)) (unit k))))) where
     abbrev Level : Levels → List Vector → Type 0
-    Level v t = (v ≡ noneLevel) × (length t ≡ 5)
+    Level v t = (v ≡ none_level) × (length t ≡ 5)
 
     abbrev Ended : Levels → Triangle × ℕ → List Vector → Type 0
     Ended v e t = (e.1 ≤ R - 3) × (length t ≡ 5 + 6 * suc e.1)
 
-    every-touch : PickRule ok look p frame reach (1 ∷ []) (allCorners d) Level Ended (TouchFound R) Stops
-    unfolding allCorners found
+    every-touch : PickRule ok look p frame reach (1 ∷ []) (all_corners d) Level Ended (TouchFound R) Stops
+    unfolding all_corners found
     every-touch = record {
       started = record {
         inputs = record {
@@ -204,36 +204,36 @@ module _ (ok : Bool) (look : Vector → Look) (p : Vector) (frame reach : ℤ) w
             one = λ _. at_once 1 _ [] (omega arith, omega arith) (omega arith);
             two = λ _. at_once 2 _ [] (omega arith, omega arith) (omega arith);
             three = λ _. at_once 3 _ [] (omega arith, omega arith) (omega arith);
-            fourStart = λ _. at_once 4 _ [] (omega arith, omega arith) (omega arith);
-            fourApex = λ _. at_once 4 _ [] (omega arith, omega arith) (omega arith);
+            four_start = λ _. at_once 4 _ [] (omega arith, omega arith) (omega arith);
+            four_apex = λ _. at_once 4 _ [] (omega arith, omega arith) (omega arith);
           };
           five = λ h _. at_once 5 _ (p ∷ []) (omega arith, omega arith) (omega arith);
           six = λ h _ _. at_once 6 _ (p ∷ d.apex ∷ []) (omega arith, omega arith) (omega arith);
         };
-        beginSays = λ h.
-            says_map _ (λ _. noneLevel)
+        begin_says = λ h.
+            says_map _ (λ _. none_level)
             (says-weaker _ (λ _ t k. k.1) empty (corners-say d (unit axis0 ∷ unit axis1 ∷ unit axis2 ∷ []) (corners-in h.passed axis0, (corners-in h.passed axis1, (corners-in h.passed axis2, tt)))))
             (λ _ t k. (refl, rw k));
       };
       ended = λ h v. record {
-        roundsSay = λ t k. rw k.0 (says-weaker _ (λ e s j. (j.0, omega (arith, j.1, k.1, length-append t s))) (λ r s j. walk-stop (small h.passed) r t s k.1 j) rounds-say);
-        ten = λ e t k n. record { fewSteps = k.0; small = inr (small h.passed); few = omega (arith, k.1); known = (omega arith, omega arith, λ z. absurd (omega (arith, z))); next = λ z. absurd (omega (arith, z)); corner = λ z. absurd (omega (arith, z)) };
-        ends = λ e t k n. record { fewSteps = k.0; small = small h.passed; counted = k.1 };
+        rounds_say = λ t k. rw k.0 (says-weaker _ (λ e s j. (j.0, omega (arith, j.1, k.1, length-append t s))) (λ r s j. walk-stop (small h.passed) r t s k.1 j) rounds-say);
+        ten = λ e t k n. record { few_steps = k.0; small = inr (small h.passed); few = omega (arith, k.1); known = (omega arith, omega arith, λ z. absurd (omega (arith, z))); next = λ z. absurd (omega (arith, z)); corner = λ z. absurd (omega (arith, z)) };
+        ends = λ e t k n. record { few_steps = k.0; small = small h.passed; counted = k.1 };
       };
     }
       where
         small : Passed ok (probe look p frame reach) p frame reach → R ≤ 256
-        small h = (between-naturals 1 256 reach h.permittedReach).1
+        small h = (between-naturals 1 256 reach h.permitted_reach).1
 
-        corners-in : Passed ok (probe look p frame reach) p frame reach → (k : Axis) → T (isInside (look (corner d (unit k))))
-        corners-in h = inside h.startInside h.apexInside
+        corners-in : Passed ok (probe look p frame reach) p frame reach → (k : Axis) → T (is_inside (look (corner d (unit k))))
+        corners-in h = inside h.start_inside h.apex_inside
 
         empty : (r : Stop) (t : List Vector) → FirstEmpty d (unit axis0 ∷ unit axis1 ∷ unit axis2 ∷ []) r (length t) → Stops r (p ∷ d.apex ∷ t)
         empty r t k =
             let z = corner-empty d (length t) k in
             let is = z.0.is in
             record {
-              fewSteps = rw is (omega arith);
+              few_steps = rw is (omega arith);
               small = inl (ap (λ (r : Stop). r.steps) is);
               few = omega (arith, z.1, nth-most z.0.axis, ap (λ (r : Stop). r.steps) is);
               known = rw is (omega arith, omega arith, λ e. absurd (omega (arith, e)));

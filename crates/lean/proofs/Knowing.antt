@@ -17,24 +17,24 @@ use Rattle.rules.specs.declared.Pick.TheVariants.{Accepted, Refused}
 use Rattle.rules.specs.declared.Bound.{Bound}
 use Rattle.rules.specs.declared.Lean.TheVariants.{Known, Unknown}
 use Rattle.rules.specs.Solids.{between}
-use Rattle.rules.specs.Lean.{measurable, lastPower, bound_at, leanOf, LeanPromise}
+use Rattle.rules.specs.Lean.{measurable, last_power, bound_at, lean_of, LeanPromise}
 use Rattle.range.specs.Ranges.{between-naturals}
 use Rattle.lean.specs.Sizes.{last-power-low}
 
 abbrev bits : ℤ → ℤ
 bits z = to_z w32 (of_z w32 z)
 
-lean-known : (a : AcceptedPick) (reach : ℤ) → (between (pos 1) reach (pos 256) && measurable a) ≡ true → leanOf (Accepted a) reach ≡ Known (bound_at (lastPower (nat_abs reach)) a)
-unfolding leanOf
-lean-known a reach t = rw (t, leanOf)
+lean-known : (a : AcceptedPick) (reach : ℤ) → (between (pos 1) reach (pos 256) && measurable a) ≡ true → lean_of (Accepted a) reach ≡ Known (bound_at (last_power (nat_abs reach)) a)
+unfolding lean_of
+lean-known a reach t = rw (t, lean_of)
 
-lean-unknown : (a : AcceptedPick) (reach : ℤ) → (between (pos 1) reach (pos 256) && measurable a) ≡ false → leanOf (Accepted a) reach ≡ Unknown 35
-unfolding leanOf
-lean-unknown a reach t = rw (t, leanOf)
+lean-unknown : (a : AcceptedPick) (reach : ℤ) → (between (pos 1) reach (pos 256) && measurable a) ≡ false → lean_of (Accepted a) reach ≡ Unknown 35
+unfolding lean_of
+lean-unknown a reach t = rw (t, lean_of)
 
 pub refused-promised : {pick : Pick} {reach : ℤ} {r : RefusedPick} → pick ≡ Refused r → LeanPromise pick reach (Unknown 35)
-unfolding leanOf
-refused-promised {reach} p = record { is = sym (ap (λ (pick : Pick). leanOf pick reach) p) }
+unfolding lean_of
+refused-promised {reach} p = record { is = sym (ap (λ (pick : Pick). lean_of pick reach) p) }
 
 module _ (a : AcceptedPick) (reach : ℤ) {b m : Bool} (e : b ≡ between (pos 1) (bits reach) (pos 256)) (k : m ≡ measurable a) where
   -- what the cast, `last_power` and `bound_at` ask
@@ -54,7 +54,7 @@ module _ (a : AcceptedPick) (reach : ℤ) {b m : Bool} (e : b ≡ between (pos 1
     pub answer-measurable : measurable a ≡ true
     answer-measurable = sym k ∙ second-of b m t
 
-    pub power-low : {power : ℕ} → power ≡ lastPower (nat_abs (bits reach)) → power ≤ 512
+    pub power-low : {power : ℕ} → power ≡ last_power (nat_abs (bits reach)) → power ≤ 512
     power-low p = omega (arith, p, last-power-low (nat_abs (bits reach)) reach-low)
 
   -- the test is the definition's
@@ -62,8 +62,8 @@ module _ (a : AcceptedPick) (reach : ℤ) {b m : Bool} (e : b ≡ between (pos 1
     test-is : (between (pos 1) reach (pos 256) && measurable a) ≡ (b && m)
     test-is = rw (e, k, to_z-of_z s)
 
-    pub known-promised : (b && m) ≡ true → {power : ℕ} {r : Bound} → power ≡ lastPower (nat_abs (bits reach)) → r ≡ bound_at power a → LeanPromise pick reach (Known r)
-    known-promised t l i = record { is = rw (i, l, to_z-of_z s) (sym (ap (λ (pick : Pick). leanOf pick reach) p ∙ lean-known a reach (test-is ∙ t))) }
+    pub known-promised : (b && m) ≡ true → {power : ℕ} {r : Bound} → power ≡ last_power (nat_abs (bits reach)) → r ≡ bound_at power a → LeanPromise pick reach (Known r)
+    known-promised t l i = record { is = rw (i, l, to_z-of_z s) (sym (ap (λ (pick : Pick). lean_of pick reach) p ∙ lean-known a reach (test-is ∙ t))) }
 
     pub unknown-promised : (b && m) ≡ false → LeanPromise pick reach (Unknown 35)
-    unknown-promised t = record { is = sym (ap (λ (pick : Pick). leanOf pick reach) p ∙ lean-unknown a reach (test-is ∙ t)) }
+    unknown-promised t = record { is = sym (ap (λ (pick : Pick). lean_of pick reach) p ∙ lean-unknown a reach (test-is ∙ t)) }

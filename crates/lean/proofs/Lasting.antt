@@ -4,8 +4,8 @@ use mathlib.Core.List.{◌∷◌}
 use Prim.Native.Nat.{ℕ, zero, suc, ◌+◌, ◌≤◌, ◌<◌}
 use native.Mathlib.Omega.{arith}
 use lib.Dec.{lit<, lit≤}
-use Rattle.rules.specs.Walk.{powersFrom, powers}
-use Rattle.rules.specs.Lean.{last, lastPower}
+use Rattle.rules.specs.Walk.{powers_from, powers}
+use Rattle.rules.specs.Lean.{last, last_power}
 use Rattle.laws.specs.Powers.{powers-last, powers-more}
 
 pub record Lasting (R l : ℕ) : Type 0 where
@@ -13,15 +13,15 @@ pub record Lasting (R l : ℕ) : Type 0 where
   pub low : l < 512
   pub fuel : ℕ
   pub enough : R ≤ l + fuel
-  pub rest : last (powersFrom fuel l R) ≡ lastPower R
+  pub rest : last (powers_from fuel l R) ≡ last_power R
 
 pub lasting-starts : {R : ℕ} → Lasting R 1
-unfolding powers lastPower
+unfolding powers last_power
 lasting-starts {R} = record { one = lit≤ tt; low = lit< tt; fuel = R; enough = omega arith; rest = refl }
 
 -- a power before those from l on is not the last
-last-behind : (fuel k l R : ℕ) → last (k ∷ powersFrom fuel l R) ≡ last (powersFrom fuel l R)
-unfolding powersFrom last
+last-behind : (fuel k l R : ℕ) → last (k ∷ powers_from fuel l R) ≡ last (powers_from fuel l R)
+unfolding powers_from last
 last-behind zero k l R = refl
 last-behind (suc fuel) k l R = refl
 
@@ -37,6 +37,6 @@ module _ {R l : ℕ} (C : Lasting R l) where
         rest = sym (ap last m.2 ∙ last-behind m.0 l (l + l) R) ∙ C.rest;
       }
 
-  pub lasting-ends : R ≤ l → l ≡ lastPower R
+  pub lasting-ends : R ≤ l → l ≡ last_power R
   unfolding last
   lasting-ends h = sym (ap last (powers-last C.fuel l R h)) ∙ C.rest

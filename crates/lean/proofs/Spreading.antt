@@ -13,7 +13,7 @@ use Rattle.rules.specs.declared.Triangle.{Triangle}
 use Rattle.rules.specs.declared.Pair.{Pair}
 use Rattle.rules.specs.declared.Pair.TheVariants.{P01, P02, P12}
 use Rattle.rules.specs.Vectors.{◌⊖◌}
-use Rattle.rules.specs.Walk.{way, keep, only, takesPart}
+use Rattle.rules.specs.Walk.{way, keep, only, takes_part}
 use Rattle.rules.specs.Lean.{longest, spread}
 use Rattle.laws.specs.Flags.{at_most_one, one_more}
 use Rattle.laws.specs.Triples.{All}
@@ -30,11 +30,11 @@ longest-kept m false x xs = omega arith
 abbrev neither : Bool → Bool → Bool
 neither a b = not a && not b
 
-abbrev levelCount : Levels → ℕ
-levelCount v = bool_byte v.x + bool_byte v.y + bool_byte v.z
+abbrev level_count : Levels → ℕ
+level_count v = bool_byte v.x + bool_byte v.y + bool_byte v.z
 
-spread-is : (v : Levels) (m : Triangle) → spread v m ≡ max (side_of (neither v.x v.y) (way m P01)) (max (side_of (neither v.x v.z) (way m P02)) (side_of (neither v.y v.z) (way m P12))) + levelCount v
-unfolding spread longest only takesPart
+spread-is : (v : Levels) (m : Triangle) → spread v m ≡ max (side_of (neither v.x v.y) (way m P01)) (max (side_of (neither v.x v.z) (way m P02)) (side_of (neither v.y v.z) (way m P12))) + level_count v
+unfolding spread longest only takes_part
 spread-is v m = simp (longest-kept, one_more) (omega arith)
 
 -- ---- the sums fit
@@ -56,12 +56,12 @@ side-low {part} s h i = omega (arith, s.is, side-of-low part h i)
 module _ (v : Levels) {m : Triangle} {a b c most longest : ℕ}
     (p : Side (neither v.x v.y) m.m0 m.m1 a) (q : Side (neither v.x v.z) m.m0 m.m2 b) (r : Side (neither v.y v.z) m.m1 m.m2 c)
     (s : most ≡ max b c) (t : longest ≡ max a most) where
-  pub sum_low : All (Bounded 2046) m → Fits w32 (longest + levelCount v)
+  pub sum_low : All (Bounded 2046) m → Fits w32 (longest + level_count v)
   sum_low h =
       let first = side-low p h.of0 h.of1 in
       let second = side-low q h.of0 h.of2 in
       let third = side-low r h.of1 h.of2 in
       omega (arith, at_most_one v.x, at_most_one v.y, at_most_one v.z)
 
-  pub sum_is : longest + levelCount v ≡ spread v m
+  pub sum_is : longest + level_count v ≡ spread v m
   sum_is = rw (t, s, p.is, q.is, r.is) (sym (spread-is v m))

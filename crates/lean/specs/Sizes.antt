@@ -5,7 +5,7 @@ use Rattle.std.proofs.Math.Facts.{and_yes}
 use Rattle.rules.specs.declared.Vector.{Vector}
 use Rattle.rules.specs.declared.Accepted.{Accepted as AcceptedPick}
 use Rattle.rules.specs.Walk.{powers}
-use Rattle.rules.specs.Lean.{squared, last, lastPower, within, measurable}
+use Rattle.rules.specs.Lean.{squared, last, last_power, within, measurable}
 use Rattle.laws.specs.Triples.{All}
 use Rattle.laws.specs.Bounds.{Bounded, within-dot}
 use Rattle.laws.specs.Powers.{UpTo, powers-reach}
@@ -44,6 +44,6 @@ last-low R l [] h i r = absurd h
 last-low R l (k ∷ []) h i r = omega (arith, h.0)
 last-low R l (k ∷ j ∷ ks) h i r = last-low R (l + l) (j ∷ ks) h.2 (omega (arith, h.0, h.1)) r
 
-pub last-power-low : (R : ℕ) → R ≤ 256 → lastPower R ≤ 512
-unfolding lastPower
+pub last-power-low : (R : ℕ) → R ≤ 256 → last_power R ≤ 512
+unfolding last_power
 last-power-low R h = last-low R 1 (powers R) (powers-reach R) (lit≤ tt) h

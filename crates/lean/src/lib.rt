@@ -1,6 +1,6 @@
 // Known lean: how far the face can lean from an accepted normal, told by the answer itself.
 ghost use Rattle.std.specs.Prelude.{◌≡◌, true, ◌≤◌, max};
-ghost use Rattle.rules.specs.Lean.{within, levelsOf, measurable, squared, spread, lastPower, bound_at, LeanPromise};
+ghost use Rattle.rules.specs.Lean.{within, levels_of, measurable, squared, spread, last_power, bound_at, LeanPromise};
 ghost use Rattle.laws.specs.Triples.{All};
 ghost use Rattle.laws.specs.Bounds.{Bounded};
 ghost use Rattle.lean.specs.Sides.{Side};
@@ -21,7 +21,7 @@ fn is_within(most: u32, v: Vector) -> bool
 
 // An axis is level exactly if the normal's part along it is 0.
 pub fn levels_of(n: Vector) -> Levels
-    ensures { result ≡ levelsOf n }
+    ensures { result ≡ levels_of n }
 {
     let x = n.x == 0;
     let y = n.y == 0;
@@ -87,7 +87,7 @@ fn spread_of(level: Levels, m: Triangle) -> u32
 // The powers are 1, 2, 4, .. up to the first that is at least the reach.
 fn last_power(reach: u32) -> u32
     requires { reach ≤ 256 }
-    ensures { result ≡ lastPower reach }
+    ensures { result ≡ last_power reach }
 {
     let mut power: u32 = 1;
     while power < reach {

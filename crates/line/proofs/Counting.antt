@@ -12,24 +12,24 @@ use mir.Syntax.{w64}
 use mir.Val.{Fits}
 use borrow.Author.Tests.{le-leb, lt-leb}
 use Rattle.integers.specs.Tests.{not-second}
-use Rattle.rules.specs.Decimals.{isDigit, areDigits, value}
-use Rattle.rules.specs.Session.{fewDigits}
+use Rattle.rules.specs.Decimals.{is_digit, are_digits, value}
+use Rattle.rules.specs.Session.{few_digits}
 use Rattle.text.specs.Decimals.{digit-range}
 use Rattle.text.specs.Places.{drop_here}
 use Rattle.line.specs.declared.Digits.TheVariants.{Value, NoDigits}
-use Rattle.line.specs.Reading.{digitsOf, DigitsRead}
+use Rattle.line.specs.Reading.{digits_of, DigitsRead}
 
 -- ---- ways out that give no digits
-no-digits : (part : List ℕ) → fewDigits part ≡ false → DigitsRead part NoDigits
-no-digits part e = record { is = sym (rw (e, digitsOf)) }
+no-digits : (part : List ℕ) → few_digits part ≡ false → DigitsRead part NoDigits
+no-digits part e = record { is = sym (rw (e, digits_of)) }
 
 pub none : {part : List ℕ} → length part < 1 → DigitsRead part NoDigits
-unfolding fewDigits
-none {part} h = no-digits part (ap (λ (t : Bool). t && (leb (length part) 10 && areDigits part)) (lt-leb 1 (length part) h))
+unfolding few_digits
+none {part} h = no-digits part (ap (λ (t : Bool). t && (leb (length part) 10 && are_digits part)) (lt-leb 1 (length part) h))
 
 pub too_many : {part : List ℕ} → 10 < length part → DigitsRead part NoDigits
-unfolding fewDigits
-too_many {part} h = no-digits part (not-second (leb 1 (length part)) (ap (λ (t : Bool). t && areDigits part) (lt-leb (length part) 10 h)))
+unfolding few_digits
+too_many {part} h = no-digits part (not-second (leb 1 (length part)) (ap (λ (t : Bool). t && are_digits part) (lt-leb (length part) 10 h)))
 
 pub record Reading (part : List ℕ) (i v : ℕ) : Type 0 where
   pub some : 1 ≤ length part
@@ -37,7 +37,7 @@ pub record Reading (part : List ℕ) (i v : ℕ) : Type 0 where
   pub count : i ≤ length part
   pub small : v < 10 ^ i
   pub says : value 0 part ≡ value v (drop i part)
-  pub digits : areDigits part ≡ areDigits (drop i part)
+  pub digits : are_digits part ≡ are_digits (drop i part)
 
 pub reading-starts : {part : List ℕ} → 1 ≤ length part → length part ≤ 10 → Reading part 0 0
 reading-starts h k = record { some = h; few = k; count = omega arith; small = lit< tt; says = refl; digits = refl }
@@ -55,7 +55,7 @@ module _ {part : List ℕ} {i v : ℕ} (R : Reading part i v) where
   pub tenfold-fits : Fits w64 (v * 10)
   tenfold-fits = let u = under in record { fits = omega arith }
 
-  module _ {r : Bool} (h : i < length part) (e : r ≡ isDigit (get_or part i 0)) where
+  module _ {r : Bool} (h : i < length part) (e : r ≡ is_digit (get_or part i 0)) where
     abbrev here : ℕ
     here = get_or part i 0
 
@@ -72,7 +72,7 @@ module _ {part : List ℕ} {i v : ℕ} (R : Reading part i v) where
     next_fits y = let high = digit-high y in let u = under in record { fits = omega arith }
 
     pub reading-more : r ≡ true → Reading part (i + 1) (v * 10 + (here - 48))
-    unfolding value areDigits
+    unfolding value are_digits
     reading-more y = record {
       some = R.some;
       few = R.few;
@@ -83,19 +83,19 @@ module _ {part : List ℕ} {i v : ℕ} (R : Reading part i v) where
           let p = pow-suc 10 i in
           rw (add-one i) (omega arith);
       says = R.says ∙ ap (value v) (drop_here part i h);
-      digits = R.digits ∙ ap areDigits (drop_here part i h) ∙ ap (λ (t : Bool). t && areDigits (drop (i + 1) part)) (sym e ∙ y);
+      digits = R.digits ∙ ap are_digits (drop_here part i h) ∙ ap (λ (t : Bool). t && are_digits (drop (i + 1) part)) (sym e ∙ y);
     }
 
     pub no_digit : r ≡ false → DigitsRead part NoDigits
-    unfolding fewDigits areDigits
-    no_digit y = no-digits part (not-second (leb 1 (length part)) (not-second (leb (length part) 10) (R.digits ∙ ap areDigits (drop_here part i h) ∙ ap (λ (t : Bool). t && areDigits (drop (i + 1) part)) (sym e ∙ y))))
+    unfolding few_digits are_digits
+    no_digit y = no-digits part (not-second (leb 1 (length part)) (not-second (leb (length part) 10) (R.digits ∙ ap are_digits (drop_here part i h) ∙ ap (λ (t : Bool). t && are_digits (drop (i + 1) part)) (sym e ∙ y))))
 
   pub all_read : length part ≤ i → DigitsRead part (Value v)
-  unfolding fewDigits areDigits value
+  unfolding few_digits are_digits value
   all_read h =
       let z = drop_of_length-le part h in
-      let few : fewDigits part ≡ true =
-      ap (λ (t : Bool). t && (leb (length part) 10 && areDigits part)) (le-leb 1 (length part) R.some)
-      ∙ ap (λ (t : Bool). t && areDigits part) (le-leb (length part) 10 R.few)
-      ∙ R.digits ∙ ap areDigits z in
-      record { is = sym (rw (few, digitsOf) (ap Value (R.says ∙ ap (value v) z))) }
+      let few : few_digits part ≡ true =
+      ap (λ (t : Bool). t && (leb (length part) 10 && are_digits part)) (le-leb 1 (length part) R.some)
+      ∙ ap (λ (t : Bool). t && are_digits part) (le-leb (length part) 10 R.few)
+      ∙ R.digits ∙ ap are_digits z in
+      record { is = sym (rw (few, digits_of) (ap Value (R.says ∙ ap (value v) z))) }

@@ -15,7 +15,7 @@ use Rattle.integers.specs.Machine.{back}
 use Rattle.rules.specs.declared.Number.{Number}
 use Rattle.rules.specs.declared.Number.TheVariants.{Whole, NoNumber}
 use Rattle.rules.specs.declared.Line.{Line}
-use Rattle.rules.specs.Session.{fields, always, ifWhole, next}
+use Rattle.rules.specs.Session.{fields, always, if_whole, next}
 use Rattle.line.specs.declared.Field.TheVariants.{Holds, NoField}
 use Rattle.line.specs.Reading.{stretch, PartEnds, NumberRead, rest, FieldAt}
 
@@ -45,14 +45,14 @@ module _ {line : List ℕ} {at end : ℕ} (h : at ≤ length line) (F : PartEnds
           F.at-end l always ∙ ap (λ (fs : List (List ℕ)). stretch line at end ∷ fs) (sym (rest-none line (end + 1) (omega arith)))
 
   module _ {n : Number} (N : NumberRead (stretch line at end) n) where
-    first : (k : ℤ → List (List ℕ) → Line) → next (rest line at) k ≡ ifWhole n (λ z. k z (rest line (end + 1)))
+    first : (k : ℤ → List (List ℕ) → Line) → next (rest line at) k ≡ if_whole n (λ z. k z (rest line (end + 1)))
     unfolding next
-    first k = ap (λ (fs : List (List ℕ)). next fs k) split ∙ ap (λ (m : Number). ifWhole m (λ z. k z (rest line (end + 1)))) (sym N.is)
+    first k = ap (λ (fs : List (List ℕ)). next fs k) split ∙ ap (λ (m : Number). if_whole m (λ z. k z (rest line (end + 1)))) (sym N.is)
 
     pub holds : {z : ℤ} → n ≡ Whole z → mag z < 2147483648 → FieldAt line at (Holds (to_z w32 (of_z w32 z)) (end + 1))
     holds {z} e b = record {
-      is = λ k. first k ∙ ap (λ (m : Number). ifWhole m (λ x. k x (rest line (end + 1)))) e ∙ ap (λ (x : ℤ). k x (rest line (end + 1))) (sym (back w32 z b));
+      is = λ k. first k ∙ ap (λ (m : Number). if_whole m (λ x. k x (rest line (end + 1)))) e ∙ ap (λ (x : ℤ). k x (rest line (end + 1))) (sym (back w32 z b));
     }
 
     pub holds_not : n ≡ NoNumber → FieldAt line at NoField
-    holds_not e = record { is = λ k. first k ∙ ap (λ (m : Number). ifWhole m (λ z. k z (rest line (end + 1)))) e }
+    holds_not e = record { is = λ k. first k ∙ ap (λ (m : Number). if_whole m (λ z. k z (rest line (end + 1)))) e }

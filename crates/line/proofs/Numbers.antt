@@ -17,10 +17,10 @@ use mir.Facts.{to_z_pos, to_z-of_z}
 use Rattle.rules.specs.declared.Number.{Number}
 use Rattle.rules.specs.declared.Number.TheVariants.{Whole, NoNumber}
 use Rattle.rules.specs.Solids.{between}
-use Rattle.rules.specs.Session.{fewDigits, within32, signed, minus, number}
+use Rattle.rules.specs.Session.{few_digits, within32, signed, minus, number}
 use Rattle.line.specs.declared.Digits.{Digits}
 use Rattle.line.specs.declared.Digits.TheVariants.{Value}
-use Rattle.line.specs.Reading.{digitsOf, DigitsRead, NumberRead, signed_of}
+use Rattle.line.specs.Reading.{digits_of, DigitsRead, NumberRead, signed_of}
 
 -- ---- within 32 bits
 inside : (z : ℤ) → between (negsuc 2147483647) z (pos 2147483647) ≡ true → within32 z ≡ Whole z
@@ -85,14 +85,14 @@ negative-outside {v} h e = sym (ap (signed_of minus) e ∙ outside (minus v) (op
 -- ---- the sign
 digits-signed : (sign : ℕ → ℤ) {part : List ℕ} {d : Digits} {r : Number} → DigitsRead part d → r ≡ signed_of sign d → r ≡ signed sign part
 unfolding signed
-digits-signed sign {part} D e = e ∙ ap (signed_of sign) D.is ∙ by (fewDigits part) refl
+digits-signed sign {part} D e = e ∙ ap (signed_of sign) D.is ∙ by (few_digits part) refl
   where
-    by : (t : Bool) → fewDigits part ≡ t → signed_of sign (digitsOf part) ≡ signed sign part
-    by true f = rw (f, digitsOf, signed)
-    by false f = rw (f, digitsOf, signed)
+    by : (t : Bool) → few_digits part ≡ t → signed_of sign (digits_of part) ≡ signed sign part
+    by true f = rw (f, digits_of, signed)
+    by false f = rw (f, digits_of, signed)
 
 pub empty : {part : List ℕ} → length part < 1 → NumberRead part NoNumber
-unfolding number signed fewDigits
+unfolding number signed few_digits
 empty {part = []} h = record { is = refl }
 empty {part = b ∷ more} h = absurd (omega arith)
 

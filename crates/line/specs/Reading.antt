@@ -8,7 +8,7 @@ use Rattle.rules.specs.declared.Line.{Line}
 use Rattle.rules.specs.declared.Line.TheVariants.{OtherForm}
 use Rattle.rules.specs.Vectors.{vector}
 use Rattle.rules.specs.Decimals.{value}
-use Rattle.rules.specs.Session.{parts, fewDigits, within32, number, fields, next, question}
+use Rattle.rules.specs.Session.{parts, few_digits, within32, number, fields, next, question}
 use Rattle.line.specs.declared.Digits.{Digits}
 use Rattle.line.specs.declared.Digits.TheVariants.{Value, NoDigits}
 use Rattle.line.specs.declared.Field.{Field}
@@ -28,11 +28,11 @@ pub record PartEnds (s : List ℕ) (at mark end : ℕ) : Type 0 where
   pub at-end : length s ≤ end → (last : List ℕ → List (List ℕ)) → parts last mark [] (drop at s) ≡ last (stretch s at end)
 
 -- ---- numbers
-abbrev pub digitsOf : List ℕ → Digits
-digitsOf part = elim (fewDigits part) [ true ↦ Value (value 0 part) | false ↦ NoDigits ]
+abbrev pub digits_of : List ℕ → Digits
+digits_of part = elim (few_digits part) [ true ↦ Value (value 0 part) | false ↦ NoDigits ]
 
 pub record DigitsRead (part : List ℕ) (r : Digits) : Type 0 where
-  pub is : r ≡ digitsOf part
+  pub is : r ≡ digits_of part
 
 pub record NumberRead (part : List ℕ) (r : Number) : Type 0 where
   pub is : r ≡ number part
@@ -45,23 +45,23 @@ signed_of sign NoDigits = NoNumber
 unfoldable pub rest : List ℕ → ℕ → List (List ℕ)
 rest line at = elim (leb at (length line)) [ true ↦ fields (drop at line) | false ↦ [] ]
 
-abbrev pub withField : List ℕ → Field → (ℤ → List (List ℕ) → Line) → Line
-withField line (Holds z behind) k = k z (rest line behind)
-withField line NoField k = OtherForm
+abbrev pub with_field : List ℕ → Field → (ℤ → List (List ℕ) → Line) → Line
+with_field line (Holds z behind) k = k z (rest line behind)
+with_field line NoField k = OtherForm
 
 pub record FieldAt (line : List ℕ) (at : ℕ) (r : Field) : Type 0 where
-  pub is : (k : ℤ → List (List ℕ) → Line) → next (rest line at) k ≡ withField line r k
+  pub is : (k : ℤ → List (List ℕ) → Line) → next (rest line at) k ≡ with_field line r k
 
 -- ---- three fields
-abbrev pub nextThree : List (List ℕ) → (Vector → List (List ℕ) → Line) → Line
-nextThree fs k = next fs λ x others. next others λ y others. next others λ z others. k (vector x y z) others
+abbrev pub next_three : List (List ℕ) → (Vector → List (List ℕ) → Line) → Line
+next_three fs k = next fs λ x others. next others λ y others. next others λ z others. k (vector x y z) others
 
-abbrev pub withThree : List ℕ → Three → (Vector → List (List ℕ) → Line) → Line
-withThree line (Values v behind) k = k v (rest line behind)
-withThree line NoThree k = OtherForm
+abbrev pub with_three : List ℕ → Three → (Vector → List (List ℕ) → Line) → Line
+with_three line (Values v behind) k = k v (rest line behind)
+with_three line NoThree k = OtherForm
 
 pub record ThreeAt (line : List ℕ) (at : ℕ) (r : Three) : Type 0 where
-  pub is : (k : Vector → List (List ℕ) → Line) → nextThree (rest line at) k ≡ withThree line r k
+  pub is : (k : Vector → List (List ℕ) → Line) → next_three (rest line at) k ≡ with_three line r k
 
 -- ---- nine: a b c, then h and two parts of p, then the third, frame and R
 abbrev pub asked : Vector → Vector → Vector → Question

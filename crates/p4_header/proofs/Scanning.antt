@@ -8,8 +8,8 @@ use native.Mathlib.Omega.{arith}
 use lib.ListN.{length, get_or, drop, drop_of_length-le}
 use lib.Dec.{eqb}
 use borrow.Author.Tests.{eq-eqb, ne_eqb, not-true, not-false}
-use Rattle.rules.specs.Decimals.{isDigit}
-use Rattle.rules.specs.P4.{isEnd, isWhite, stands, commentAt, mix, digitsAt}
+use Rattle.rules.specs.Decimals.{is_digit}
+use Rattle.rules.specs.P4.{is_end, is_white, stands, comment_at, mix, digits_at}
 use Rattle.text.specs.Places.{drop_here}
 use Rattle.p4_laws.specs.Scans.{mix-in, mix-white, mix-hash, mix-stop, comment-end, comment-more, digit-more, digit-stop, Alike, alike, alike-trans, alike_is}
 use Rattle.p4_header.specs.declared.PlaceRead.TheVariants.{At, NotAt}
@@ -67,10 +67,10 @@ module _ {s : List ℕ} {at i : ℕ} {comment : Bool} (M : Mixing s at i comment
     at_byte : (t : Bool) → comment ≡ t → mix t (get_or s i 0 ∷ drop (i + 1) s) i ≡ mix false (drop at s) at
     at_byte t e = sym (λ k. mix (e k) (drop_here s i h k) i) ∙ M.rest
 
-    pub mixing-in : comment ≡ true → {r : Bool} → r ≡ isEnd (get_or s i 0) → Mixing s at (i + 1) (not r)
+    pub mixing-in : comment ≡ true → {r : Bool} → r ≡ is_end (get_or s i 0) → Mixing s at (i + 1) (not r)
     mixing-in e f = record { rest = ap (λ (x : Bool). mix (not x) (drop (i + 1) s) (i + 1)) f ∙ sym (mix-in (get_or s i 0) (drop (i + 1) s) i) ∙ at_byte true e }
 
-    module _ (e : comment ≡ false) {r : Bool} (f : r ≡ isWhite (get_or s i 0)) where
+    module _ (e : comment ≡ false) {r : Bool} (f : r ≡ is_white (get_or s i 0)) where
       pub mixing-white : r ≡ true → Mixing s at (i + 1) comment
       mixing-white t = record { rest = ap (λ (x : Bool). mix x (drop (i + 1) s) (i + 1)) e ∙ sym (mix-white (get_or s i 0) (drop (i + 1) s) i (sym f ∙ t)) ∙ at_byte false e }
 
@@ -82,19 +82,19 @@ module _ {s : List ℕ} {at i : ℕ} {comment : Bool} (M : Mixing s at i comment
 
 -- ---- a comment
 pub record Commenting (s : List ℕ) (at i : ℕ) : Type 0 where
-  pub rest : commentAt (drop i s) i ≡ commentAt (drop at s) at
+  pub rest : comment_at (drop i s) i ≡ comment_at (drop at s) at
 
 pub commenting-start : (s : List ℕ) (at : ℕ) → Commenting s at at
 commenting-start s at = record { rest = refl }
 
 module _ {s : List ℕ} {at i : ℕ} (C : Commenting s at i) where
   pub commenting-unclosed : length s ≤ i → Comment s at (NotAt 22 i)
-  unfolding commentAt
-  commenting-unclosed l = record { is = ap (λ (x : List ℕ). commentAt x i) (sym (drop_of_length-le s l)) ∙ C.rest }
+  unfolding comment_at
+  commenting-unclosed l = record { is = ap (λ (x : List ℕ). comment_at x i) (sym (drop_of_length-le s l)) ∙ C.rest }
 
-  module _ (h : i < length s) {r : Bool} (f : r ≡ isEnd (get_or s i 0)) where
-    here_on : commentAt (get_or s i 0 ∷ drop (i + 1) s) i ≡ commentAt (drop at s) at
-    here_on = ap (λ (x : List ℕ). commentAt x i) (sym (drop_here s i h)) ∙ C.rest
+  module _ (h : i < length s) {r : Bool} (f : r ≡ is_end (get_or s i 0)) where
+    here_on : comment_at (get_or s i 0 ∷ drop (i + 1) s) i ≡ comment_at (drop at s) at
+    here_on = ap (λ (x : List ℕ). comment_at x i) (sym (drop_here s i h)) ∙ C.rest
 
     pub commenting-closed : r ≡ true → Comment s at (At (i + 1))
     commenting-closed t = record { is = sym (comment-end (get_or s i 0) (drop (i + 1) s) i (sym f ∙ t)) ∙ here_on }
@@ -105,27 +105,27 @@ module _ {s : List ℕ} {at i : ℕ} (C : Commenting s at i) where
 -- ---- digits
 pub record Counting (s : List ℕ) (at i v : ℕ) : Type 0 where
   pub small : v ≤ 100000
-  pub rest : Alike (digitsAt v (drop i s) i) (digitsAt 0 (drop at s) at)
+  pub rest : Alike (digits_at v (drop i s) i) (digits_at 0 (drop at s) at)
 
 pub counting-start : (s : List ℕ) (at : ℕ) → Counting s at at 0
 counting-start s at = record { small = omega arith; rest = alike_is refl }
 
 module _ {s : List ℕ} {at i v : ℕ} (C : Counting s at i v) where
-  counted : digitsAt v (drop i s) i ≡ (v, i) → Digits s at v i
+  counted : digits_at v (drop i s) i ≡ (v, i) → Digits s at v i
   counted e =
       let a = alike-trans (alike_is (sym e)) C.rest in
       let n = C.small in
       record { value-is = omega (arith, a.value); next-is = a.place }
 
   pub counting-end : length s ≤ i → Digits s at v i
-  unfolding digitsAt
-  counting-end l = counted (ap (λ (x : List ℕ). digitsAt v x i) (drop_of_length-le s l))
+  unfolding digits_at
+  counting-end l = counted (ap (λ (x : List ℕ). digits_at v x i) (drop_of_length-le s l))
 
-  module _ (h : i < length s) {r : Bool} (f : r ≡ isDigit (get_or s i 0)) where
+  module _ (h : i < length s) {r : Bool} (f : r ≡ is_digit (get_or s i 0)) where
     pub counting-stop : not r ≡ true → Digits s at v i
-    counting-stop t = counted (ap (λ (x : List ℕ). digitsAt v x i) (drop_here s i h) ∙ digit-stop (get_or s i 0) (drop (i + 1) s) i v (sym f ∙ not-true r t))
+    counting-stop t = counted (ap (λ (x : List ℕ). digits_at v x i) (drop_here s i h) ∙ digit-stop (get_or s i 0) (drop (i + 1) s) i v (sym f ∙ not-true r t))
 
-    pub counting-digit : not r ≡ false → isDigit (get_or s i 0) ≡ true
+    pub counting-digit : not r ≡ false → is_digit (get_or s i 0) ≡ true
     counting-digit t = sym f ∙ not-false r t
 
     pub counting-next : not r ≡ false → {w : ℕ} → w ≡ min 100000 (v * 10 + (get_or s i 0 - 48)) → Counting s at (i + 1) w
@@ -135,6 +135,6 @@ module _ {s : List ℕ} {at i v : ℕ} (C : Counting s at i v) where
           alike-trans
           (alike (drop (i + 1) s) (i + 1) w (v * 10 + (get_or s i 0 - 48)) (omega arith))
           (alike-trans
-          (alike_is (sym (ap (λ (x : List ℕ). digitsAt v x i) (drop_here s i h) ∙ digit-more (get_or s i 0) (drop (i + 1) s) i v (counting-digit t))))
+          (alike_is (sym (ap (λ (x : List ℕ). digits_at v x i) (drop_here s i h) ∙ digit-more (get_or s i 0) (drop (i + 1) s) i v (counting-digit t))))
           C.rest);
     }

@@ -4,13 +4,13 @@ use Rattle.std.proofs.Common.{sym, ap, ◌∙◌}
 use Rattle.rules.specs.P4.{Judged, good, wrong, Header}
 use Rattle.p4_header.specs.declared.HeaderRead.{HeaderRead}
 use Rattle.p4_header.specs.declared.HeaderRead.TheVariants.{Sizes, NoSizes}
-use Rattle.p4_header.specs.Reads.{judgedHeader, HeaderIs}
+use Rattle.p4_header.specs.Reads.{judged_header, HeaderIs}
 
 made : Judged Header → HeaderRead
 made (good h) = Sizes h.width h.height h.next
 made (wrong n p) = NoSizes n p
 
-made_again : (r : HeaderRead) → made (judgedHeader r) ≡ r
+made_again : (r : HeaderRead) → made (judged_header r) ≡ r
 unfolding made
 made_again (Sizes w h i) = refl
 made_again (NoSizes n p) = refl

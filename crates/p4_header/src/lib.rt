@@ -1,7 +1,7 @@
 // The header of an image, read front to back.
 ghost use Rattle.std.specs.Prelude.{◌≡◌, true, ◌+◌, ◌-◌, ◌*◌, ◌≤◌, min, length};
-ghost use Rattle.rules.specs.Decimals.{isDigit};
-ghost use Rattle.rules.specs.P4.{isEnd, isWhite};
+ghost use Rattle.rules.specs.Decimals.{is_digit};
+ghost use Rattle.rules.specs.P4.{is_end, is_white};
 ghost use Rattle.p4_header.specs.Reads.{Stands, Comment, White, Mix, Digits, FieldIs, SizesAre, HeaderIs};
 
 // A place, or a refusal with its number and the number returned; and so below.
@@ -26,7 +26,7 @@ pub enum HeaderRead {
 }
 
 fn is_end(b: u8) -> bool
-    ensures { result ≡ isEnd b }
+    ensures { result ≡ is_end b }
 {
     if b == 13 {
         return true;
@@ -35,7 +35,7 @@ fn is_end(b: u8) -> bool
 }
 
 fn is_white(b: u8) -> bool
-    ensures { result ≡ isWhite b }
+    ensures { result ≡ is_white b }
 {
     if b == 32 {
         return true;
@@ -129,7 +129,7 @@ struct Number {
 
 // One digit more; 100000 stands for every value above it.
 fn add_digit(v: usize, b: u8) -> usize
-    requires { (v ≤ 100000) × (isDigit b ≡ true) }
+    requires { (v ≤ 100000) × (is_digit b ≡ true) }
     ensures { result ≡ min 100000 (v * 10 + (b - 48)) }
 {
     let w = v * 10 + ((b - 48) as usize);

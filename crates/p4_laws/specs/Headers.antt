@@ -2,29 +2,29 @@
 use Rattle.std.specs.Prelude.{◌≡◌, Bool, true, false, ◌&&◌, List, ℕ, ◌+◌, ◌≤◌, length, get_or, drop, leb, ltb, eqb}
 use Rattle.std.proofs.Common.{sym, ap, subst, ◌∙◌, arith, length-drop, leb-true}
 use Rattle.integers.specs.Tests.{first_of, second-of}
-use Rattle.rules.specs.Solids.{sliceBytes}
-use Rattle.rules.specs.P4.{good, isEnd, isWhite, white, mix, digitsAt, Field, field_at, Header, header_at, stands, magic, imageAt}
+use Rattle.rules.specs.Solids.{slice_bytes}
+use Rattle.rules.specs.P4.{good, is_end, is_white, white, mix, digits_at, Field, field_at, Header, header_at, stands, magic, image_at}
 use Rattle.stack.specs.Sides.{Side}
-use Rattle.p4_laws.specs.White.{Byte, isSpace, isHash, isOther, byte, there, space-reads, other-refused, comment-reads, Ends, comment-ends}
+use Rattle.p4_laws.specs.White.{Byte, is_space, is_hash, is_other, byte, there, space-reads, other-refused, comment-reads, Ends, comment-ends}
 use Rattle.p4_laws.specs.Judging.{made, passed}
 
 -- white space that is read is there
 pub white-in : (s : List ℕ) (q : ℕ) {i : ℕ} → white s q ≡ good i → i ≤ length s
-unfolding isWhite isEnd
+unfolding is_white is_end
 white-in s q {i} e = by (byte (get_or s q 0))
   where
     by : Byte (get_or s q 0) → i ≤ length s
-    by (isSpace w) =
+    by (is_space w) =
         let n : q + 1 ≡ i = let x = sym (space-reads s q w) ∙ e in cc in
-        let l = there s q (λ z. (let y : ◌≡◌ {A = Bool} false true = sym (ap isWhite z) ∙ w in let m : ◌≡◌ {A = ℕ} 0 1 = cc in omega arith)) in
+        let l = there s q (λ z. (let y : ◌≡◌ {A = Bool} false true = sym (ap is_white z) ∙ w in let m : ◌≡◌ {A = ℕ} 0 1 = cc in omega arith)) in
         omega arith
-    by (isHash h) =
+    by (is_hash h) =
         let k = subst (Ends (drop q s) q) (sym (comment-reads s q h) ∙ e) (comment-ends (drop q s) q) in
         let b = k.1 in
         let l = there s q (λ z. omega arith) in
         let n = length-drop q s in
         omega arith
-    by (isOther w n) = let x = sym (other-refused s q w n) ∙ e in let z : ◌≡◌ {A = ℕ} 0 1 = cc in absurd (omega arith)
+    by (is_other w n) = let x = sym (other-refused s q w n) ∙ e in let z : ◌≡◌ {A = ℕ} 0 1 = cc in absurd (omega arith)
 
 pub record FieldIn (most : ℕ) (s : List ℕ) (f : Field) : Type 0 where
   pub some : 1 ≤ f.value
@@ -35,7 +35,7 @@ pub field_in : (most number : ℕ) (s : List ℕ) (at : ℕ) {f : Field} → fie
 unfolding field_at
 field_in most number s at {f} e =
     let first = mix false (drop at s) at in
-    let d = digitsAt 0 (drop first s) first in
+    let d = digits_at 0 (drop first s) first in
     let p = passed 22 first _ (ltb first d.1) e in
     let w = made _ (white s d.1) p.1 in
     let q = passed number first _ (leb 1 d.0 && leb d.0 most) w.2 in
@@ -65,12 +65,12 @@ header-in s at {h} e =
     subst (HeaderIn s) q (record { wide = side-in a; high = side-in b; inside = b.inside })
 
 -- an image's rows are inside
-pub image-in : (w h : ℕ) (s : List ℕ) (at : ℕ) {i : ℕ} → imageAt w h s at ≡ good i → i + sliceBytes w h ≤ length s
-unfolding imageAt
+pub image-in : (w h : ℕ) (s : List ℕ) (at : ℕ) {i : ℕ} → image_at w h s at ≡ good i → i + slice_bytes w h ≤ length s
+unfolding image_at
 image-in w h s at {i} e =
     let x = made _ (header_at s at) e in
     let p = passed 24 at _ (eqb x.0.width w && eqb x.0.height h) x.2 in
-    let q = passed 25 (length s) _ (leb (x.0.next + sliceBytes w h) (length s)) p.1 in
+    let q = passed 25 (length s) _ (leb (x.0.next + slice_bytes w h) (length s)) p.1 in
     let n : x.0.next ≡ i = let y = q.1 in cc in
-    let l = leb-true (x.0.next + sliceBytes w h) (length s) q.0 in
+    let l = leb-true (x.0.next + slice_bytes w h) (length s) q.0 in
     omega arith

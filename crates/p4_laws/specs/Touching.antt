@@ -7,7 +7,7 @@ use Rattle.std.proofs.Common.{sym, subst, ◌∙◌, arith, drop_of_length-le, d
 use Rattle.std.proofs.Math.Bool.{true, false}
 use Rattle.std.proofs.Math.Dec.{eqb}
 use borrow.Author.Tests.{lt-ltb, eqb-true, eqb-false}
-use Rattle.rules.specs.P4.{good, wrong, ◌>>=◌, judge, stands, magic, isEnd, isWhite, commentAt, white, mix, digitsAt, field_at, header_at}
+use Rattle.rules.specs.P4.{good, wrong, ◌>>=◌, judge, stands, magic, is_end, is_white, comment_at, white, mix, digits_at, field_at, header_at}
 use Rattle.p4_laws.specs.Judging.{on, pass}
 use Rattle.text.specs.Places.{drop_here}
 use Rattle.p4_laws.specs.Scans.{mix-in, mix-hash, comment-end, comment-more}
@@ -16,31 +16,31 @@ use Rattle.p4_laws.specs.White.{there, comment-reads, Ends, comment-ends}
 -- a comment that begins at a place and is open up to another: # there, and no line end behind it
 pub record Open (s : List ℕ) (at end : ℕ) : Type 0 where
   pub hash : get_or s at 0 ≡ 35
-  pub unended : (i : ℕ) → at < i → i < end → isEnd (get_or s i 0) ≡ false
+  pub unended : (i : ℕ) → at < i → i < end → is_end (get_or s i 0) ≡ false
 
 -- and the line end that closes it
 pub record Touching (s : List ℕ) (at end : ℕ) : Type 0 where
   pub runs : Open s at end
   pub behind : at < end
-  pub closes : isEnd (get_or s end 0) ≡ true
+  pub closes : is_end (get_or s end 0) ≡ true
 
 -- every # is closed or not: so of a byte where white space is required `space-reads`, `touching-reads`, `unclosed-refused` and `other-refused` tell all
 pub data Closing (s : List ℕ) (at : ℕ) : Type 0 where
   closed : (end : ℕ) → Touching s at end → Closing s at
   unclosed : Open s at (length s) → Closing s at
 
-further : {s : List ℕ} {at i : ℕ} → Open s at i → isEnd (get_or s i 0) ≡ false → Open s at (i + 1)
+further : {s : List ℕ} {at i : ℕ} → Open s at i → is_end (get_or s i 0) ≡ false → Open s at (i + 1)
 further {s} {at} {i} O f = record { hash = O.hash; unended = λ j l m. by j l m (eqb j i) refl }
   where
-    by : (j : ℕ) → at < j → j < i + 1 → (t : Bool) → eqb j i ≡ t → isEnd (get_or s j 0) ≡ false
-    by j l m true e = ap (λ (k : ℕ). isEnd (get_or s k 0)) (eqb-true j i e) ∙ f
+    by : (j : ℕ) → at < j → j < i + 1 → (t : Bool) → eqb j i ≡ t → is_end (get_or s j 0) ≡ false
+    by j l m true e = ap (λ (k : ℕ). is_end (get_or s k 0)) (eqb-true j i e) ∙ f
     by j l m false e = let n = eqb-false j i e in O.unended j l (omega arith)
 
 scan : (s : List ℕ) (at k i : ℕ) → i + k ≡ length s → at < i → Open s at i → Closing s at
 scan s at zero i e l O = let n : i ≡ length s = omega arith in unclosed (subst (Open s at) n O)
-scan s at (suc k) i e l O = by (isEnd (get_or s i 0)) refl (λ P. scan s at k (i + 1) (omega arith) (omega arith) P)
+scan s at (suc k) i e l O = by (is_end (get_or s i 0)) refl (λ P. scan s at k (i + 1) (omega arith) (omega arith) P)
   where
-    by : (t : Bool) → isEnd (get_or s i 0) ≡ t → (Open s at (i + 1) → Closing s at) → Closing s at
+    by : (t : Bool) → is_end (get_or s i 0) ≡ t → (Open s at (i + 1) → Closing s at) → Closing s at
     by true f go = closed i (record { runs = O; behind = l; closes = f })
     by false f go = go (further O f)
 
@@ -50,57 +50,57 @@ closed-or-not s at h =
     scan s at (length s - (at + 1)) (at + 1) (omega arith) (omega arith) (record { hash = h; unended = λ i m n. absurd (omega arith) })
 
 -- bytes with no line end are passed over
-passes : (s : List ℕ) (k i : ℕ) → i + k ≤ length s → ((j : ℕ) → i ≤ j → j < i + k → isEnd (get_or s j 0) ≡ false) → commentAt (drop i s) i ≡ commentAt (drop (i + k) s) (i + k)
-passes s zero i l f = let e : i ≡ i + 0 = omega arith in λ j. commentAt (drop (e j) s) (e j)
+passes : (s : List ℕ) (k i : ℕ) → i + k ≤ length s → ((j : ℕ) → i ≤ j → j < i + k → is_end (get_or s j 0) ≡ false) → comment_at (drop i s) i ≡ comment_at (drop (i + k) s) (i + k)
+passes s zero i l f = let e : i ≡ i + 0 = omega arith in λ j. comment_at (drop (e j) s) (e j)
 passes s (suc k) i l f =
     let e : i + 1 + k ≡ i + suc k = omega arith in
-    ap (λ (x : List ℕ). commentAt x i) (drop_here s i (omega arith))
+    ap (λ (x : List ℕ). comment_at x i) (drop_here s i (omega arith))
     ∙ comment-more (get_or s i 0) (drop (i + 1) s) i (f i (omega arith) (omega arith))
     ∙ passes s k (i + 1) (omega arith) (λ j g h. f j (omega arith) (omega arith))
-    ∙ (λ j. commentAt (drop (e j) s) (e j))
+    ∙ (λ j. comment_at (drop (e j) s) (e j))
 
 module _ {s : List ℕ} {at end : ℕ} (O : Open s at end) where
   -- the # is no line end either
-  no_end : (i : ℕ) → at ≤ i → i < end → isEnd (get_or s i 0) ≡ false
-  unfolding isEnd
+  no_end : (i : ℕ) → at ≤ i → i < end → is_end (get_or s i 0) ≡ false
+  unfolding is_end
   no_end i l m = by (eqb at i) refl
     where
-      by : (t : Bool) → eqb at i ≡ t → isEnd (get_or s i 0) ≡ false
-      by true e = ap (λ (j : ℕ). isEnd (get_or s j 0)) (sym (eqb-true at i e)) ∙ ap isEnd O.hash
+      by : (t : Bool) → eqb at i ≡ t → is_end (get_or s i 0) ≡ false
+      by true e = ap (λ (j : ℕ). is_end (get_or s j 0)) (sym (eqb-true at i e)) ∙ ap is_end O.hash
       by false e = let n = eqb-false at i e in O.unended i (omega arith) m
 
-  open-reads : at ≤ end → end ≤ length s → white s at ≡ commentAt (drop end s) end
+  open-reads : at ≤ end → end ≤ length s → white s at ≡ comment_at (drop end s) end
   open-reads l m =
       let e : at + (end - at) ≡ end = omega arith in
       comment-reads s at O.hash
       ∙ passes s (end - at) at (omega arith) (λ i g h. no_end i g (omega arith))
-      ∙ (λ j. commentAt (drop (e j) s) (e j))
+      ∙ (λ j. comment_at (drop (e j) s) (e j))
 
 -- "A comment may now begin at once", and "the line end that closes it counts as the white space required there"
 pub touching-reads : {s : List ℕ} {at end : ℕ} → Touching s at end → white s at ≡ good (end + 1)
-unfolding isEnd
+unfolding is_end
 touching-reads {s} {end = end} T =
     let b = T.behind in
-    let l = there s end (λ z. (let y : ◌≡◌ {A = Bool} false true = sym (ap isEnd z) ∙ T.closes in let n : ◌≡◌ {A = ℕ} 0 1 = cc in omega arith)) in
+    let l = there s end (λ z. (let y : ◌≡◌ {A = Bool} false true = sym (ap is_end z) ∙ T.closes in let n : ◌≡◌ {A = ℕ} 0 1 = cc in omega arith)) in
     open-reads T.runs (omega arith) (omega arith)
-    ∙ ap (λ (x : List ℕ). commentAt x end) (drop_here s end l)
+    ∙ ap (λ (x : List ℕ). comment_at x end) (drop_here s end l)
     ∙ comment-end (get_or s end 0) (drop (end + 1) s) end T.closes
 
 -- one that never ends is refused at the input's length
 pub unclosed-refused : {s : List ℕ} {at : ℕ} → Open s at (length s) → white s at ≡ wrong 22 (length s)
-unfolding commentAt
+unfolding comment_at
 unclosed-refused {s} {at} O =
     let h = O.hash in
     let l = there s at (λ z. omega arith) in
-    open-reads O (omega arith) (omega arith) ∙ ap (λ (x : List ℕ). commentAt x (length s)) (drop_of_length-le s {i = length s} (omega arith))
+    open-reads O (omega arith) (omega arith) ∙ ap (λ (x : List ℕ). comment_at x (length s)) (drop_of_length-le s {i = length s} (omega arith))
 
 -- a comment is the same one in a gap: `mix` goes on where it ends
-pub comment-once : (l : List ℕ) (at : ℕ) {i : ℕ} → commentAt l at ≡ good i → mix true l at ≡ mix false (drop (i - at) l) i
-unfolding commentAt
+pub comment-once : (l : List ℕ) (at : ℕ) {i : ℕ} → comment_at l at ≡ good i → mix true l at ≡ mix false (drop (i - at) l) i
+unfolding comment_at
 comment-once [] at {i} e = let z : ◌≡◌ {A = ℕ} 0 1 = cc in absurd (omega arith)
-comment-once (b ∷ l) at {i} e = by (isEnd b) refl (comment-once l (at + 1))
+comment-once (b ∷ l) at {i} e = by (is_end b) refl (comment-once l (at + 1))
   where
-    by : (t : Bool) → isEnd b ≡ t → (commentAt l (at + 1) ≡ good i → mix true l (at + 1) ≡ mix false (drop (i - (at + 1)) l) i) → mix true (b ∷ l) at ≡ mix false (drop (i - at) (b ∷ l)) i
+    by : (t : Bool) → is_end b ≡ t → (comment_at l (at + 1) ≡ good i → mix true l (at + 1) ≡ mix false (drop (i - (at + 1)) l) i) → mix true (b ∷ l) at ≡ mix false (drop (i - at) (b ∷ l)) i
     by true t h =
         let n : at + 1 ≡ i = let x = sym (comment-end b l at t) ∙ e in cc in
         let m : suc 0 ≡ i - at = omega arith in
@@ -113,15 +113,15 @@ comment-once (b ∷ l) at {i} e = by (isEnd b) refl (comment-once l (at + 1))
 
 -- so the rest of a gap is the same behind a comment that touches as behind that comment after white space
 pub touching-gap : {s : List ℕ} {at end : ℕ} → Touching s at end → mix false (drop at s) at ≡ mix false (drop (end + 1) s) (end + 1)
-unfolding isWhite isEnd
+unfolding is_white is_end
 touching-gap {s} {at} {end} T =
     let h = T.runs.hash in
     let b = T.behind in
     let l = there s at (λ z. omega arith) in
     let n : at + (end + 1 - at) ≡ end + 1 = omega arith in
-    let e : isEnd (get_or s at 0) ≡ false = ap isEnd h in
+    let e : is_end (get_or s at 0) ≡ false = ap is_end h in
     ap (λ (x : List ℕ). mix false x at) (drop_here s at l)
-    ∙ mix-hash (get_or s at 0) (drop (at + 1) s) at (ap isWhite h) h
+    ∙ mix-hash (get_or s at 0) (drop (at + 1) s) at (ap is_white h) h
     ∙ sym (mix-in (get_or s at 0) (drop (at + 1) s) at ∙ ap (λ (x : Bool). mix (not x) (drop (at + 1) s) (at + 1)) e)
     ∙ ap (λ (x : List ℕ). mix true x at) (sym (drop_here s at l))
     ∙ comment-once (drop at s) at (sym (comment-reads s at h) ∙ touching-reads T)
@@ -134,7 +134,7 @@ unfolding header_at
 after-magic s at m T = pass 21 at _ m ∙ on _ (touching-reads T)
 
 -- after the width or the height: the number is judged once the line end was seen, and the gap's rest, or the rows, begin past it
-pub after-number : (most number : ℕ) (s : List ℕ) (at : ℕ) {first value past end : ℕ} → mix false (drop at s) at ≡ first → digitsAt 0 (drop first s) first ≡ (value, past) → first < past → Touching s past end
+pub after-number : (most number : ℕ) (s : List ℕ) (at : ℕ) {first value past end : ℕ} → mix false (drop at s) at ≡ first → digits_at 0 (drop first s) first ≡ (value, past) → first < past → Touching s past end
     → field_at most number s at ≡ (judge (leb 1 value && leb value most) number first >>= λ _. good (record { value = value; next = end + 1 }))
 unfolding field_at
 after-number most number s at {first} {past = past} m d l T = rw m (rw d (pass 22 first _ (lt-ltb first past l) ∙ on _ (touching-reads T)))

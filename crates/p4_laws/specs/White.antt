@@ -6,22 +6,22 @@ use Rattle.std.proofs.Math.Path.{ap}
 use Rattle.std.proofs.Math.Bool.{false}
 use Rattle.std.proofs.Math.ListN.{get_or-eq_default}
 use Rattle.std.proofs.lemmas.Bool.{eqb-false}
-use Rattle.rules.specs.P4.{Judged, good, wrong, isEnd, isWhite, commentAt, white}
+use Rattle.rules.specs.P4.{Judged, good, wrong, is_end, is_white, comment_at, white}
 use Rattle.p4_laws.specs.Judging.{pass, fail}
 use Rattle.p4_laws.specs.Scans.{comment-end, comment-more}
 
 pub data Byte (b : ℕ) : Type 0 where
-  isSpace : isWhite b ≡ true → Byte b
-  isHash : b ≡ 35 → Byte b
-  isOther : isWhite b ≡ false → (b ≡ 35 → ⊥) → Byte b
+  is_space : is_white b ≡ true → Byte b
+  is_hash : b ≡ 35 → Byte b
+  is_other : is_white b ≡ false → (b ≡ 35 → ⊥) → Byte b
 
 pub byte : (b : ℕ) → Byte b
-byte b = by (isWhite b) (eqb b 35) refl refl
+byte b = by (is_white b) (eqb b 35) refl refl
   where
-    by : (t u : Bool) → isWhite b ≡ t → eqb b 35 ≡ u → Byte b
-    by true u e f = isSpace e
-    by false true e f = isHash (eqb-true b 35 f)
-    by false false e f = isOther e (eqb-false b 35 f)
+    by : (t u : Bool) → is_white b ≡ t → eqb b 35 ≡ u → Byte b
+    by true u e f = is_space e
+    by false true e f = is_hash (eqb-true b 35 f)
+    by false false e f = is_other e (eqb-false b 35 f)
 
 -- behind the end stands 0
 pub there : (s : List ℕ) (at : ℕ) → (get_or s at 0 ≡ 0 → ⊥) → at < length s
@@ -34,19 +34,19 @@ there s at n = by (leb (length s) at) refl
 -- ---- what is read there
 module _ (s : List ℕ) (at : ℕ) where
   -- a white space byte, as document 01 has it
-  pub space-reads : isWhite (get_or s at 0) ≡ true → white s at ≡ good (at + 1)
+  pub space-reads : is_white (get_or s at 0) ≡ true → white s at ≡ good (at + 1)
   unfolding white
   space-reads e = rw (e, white)
 
   -- neither that nor a #
-  pub other-refused : isWhite (get_or s at 0) ≡ false → (get_or s at 0 ≡ 35 → ⊥) → white s at ≡ wrong 22 at
+  pub other-refused : is_white (get_or s at 0) ≡ false → (get_or s at 0 ≡ 35 → ⊥) → white s at ≡ wrong 22 at
   unfolding white
   other-refused e n = rw (e, white) (fail 22 at _ (ne_eqb (get_or s at 0) 35 n))
 
   -- a #: the comment is read, and its own laws go on from here
-  pub comment-reads : get_or s at 0 ≡ 35 → white s at ≡ commentAt (drop at s) at
-  unfolding white isWhite isEnd
-  comment-reads h = let e : isWhite (get_or s at 0) ≡ false = ap isWhite h in rw (e, white) (pass 22 at _ (eq-eqb (get_or s at 0) 35 h))
+  pub comment-reads : get_or s at 0 ≡ 35 → white s at ≡ comment_at (drop at s) at
+  unfolding white is_white is_end
+  comment-reads h = let e : is_white (get_or s at 0) ≡ false = ap is_white h in rw (e, white) (pass 22 at _ (eq-eqb (get_or s at 0) 35 h))
 
 -- ---- a comment ends inside, behind its first byte, or is refused where the bytes end
 abbrev pub Ends : List ℕ → ℕ → Judged ℕ → Type 0
@@ -57,11 +57,11 @@ one_further : (b : ℕ) (l : List ℕ) (at : ℕ) (x : Judged ℕ) → Ends l (a
 one_further b l at (good i) h = let x = h.0 in let y = h.1 in (omega arith, omega arith)
 one_further b l at (wrong n p) h = omega arith
 
-pub comment-ends : (l : List ℕ) (at : ℕ) → Ends l at (commentAt l at)
-unfolding commentAt
+pub comment-ends : (l : List ℕ) (at : ℕ) → Ends l at (comment_at l at)
+unfolding comment_at
 comment-ends [] at = omega arith
-comment-ends (b ∷ l) at = by (isEnd b) refl (comment-ends l (at + 1))
+comment-ends (b ∷ l) at = by (is_end b) refl (comment-ends l (at + 1))
   where
-    by : (t : Bool) → isEnd b ≡ t → Ends l (at + 1) (commentAt l (at + 1)) → Ends (b ∷ l) at (commentAt (b ∷ l) at)
+    by : (t : Bool) → is_end b ≡ t → Ends l (at + 1) (comment_at l (at + 1)) → Ends (b ∷ l) at (comment_at (b ∷ l) at)
     by true e h = subst (Ends (b ∷ l) at) (sym (comment-end b l at e)) (omega arith, omega arith)
-    by false e h = subst (Ends (b ∷ l) at) (sym (comment-more b l at e)) (one_further b l at (commentAt l (at + 1)) h)
+    by false e h = subst (Ends (b ∷ l) at) (sym (comment-more b l at e)) (one_further b l at (comment_at l (at + 1)) h)

@@ -8,15 +8,15 @@ use native.Mathlib.Omega.{arith}
 use borrow.Author.Count.{below_none, below_more}
 use lib.ListN.{length, get_or, take, drop, set, length-set}
 use lib.Seq.{get_or-set_same, get_or-set_other, take-suc-set}
-use Rattle.rules.specs.Solids.{sliceBytes}
-use Rattle.rules.specs.P4.{Judged, good, wrong, ◌>>=◌, rows, imageAt, imagesAt}
+use Rattle.rules.specs.Solids.{slice_bytes}
+use Rattle.rules.specs.P4.{Judged, good, wrong, ◌>>=◌, rows, image_at, images_at}
 use Rattle.p4_laws.specs.Judging.{on, off}
 use Rattle.p4_laws.specs.Headers.{image-in}
 use Rattle.p4_laws.specs.Images.{followed, images-end, images-full, images-more}
 use Rattle.stack.specs.Bytes.{SliceSides, SliceBytes}
 use Rattle.p4_header.specs.declared.PlaceRead.{PlaceRead}
 use Rattle.p4_header.specs.declared.PlaceRead.TheVariants.{At, NotAt}
-use Rattle.p4_header.specs.Reads.{judgedPlace}
+use Rattle.p4_header.specs.Reads.{judged_place}
 use Rattle.p4_read.specs.declared.DepthRead.TheVariants.{Depth, NoDepth}
 use Rattle.p4_read.specs.Images.{ImageIs, ImageRange, rows_at, Places, ImagesAre}
 
@@ -30,9 +30,9 @@ preceded-none (good (d, l)) = ap (λ (k : ℕ). good (k, l)) (zero-add d)
 preceded-none (wrong n p) = refl
 
 preceded-more : (z : ℕ) (front : List ℕ) (left w h : ℕ) (s : List ℕ) (i : ℕ)
-    → preceded z front (followed left w h s i) ≡ preceded (z + 1) (front ++ rows h w (drop i s)) (imagesAt left w h s (i + sliceBytes w h))
+    → preceded z front (followed left w h s i) ≡ preceded (z + 1) (front ++ rows h w (drop i s)) (images_at left w h s (i + slice_bytes w h))
 unfolding preceded ◌>>=◌
-preceded-more z front left w h s i = by (imagesAt left w h s (i + sliceBytes w h))
+preceded-more z front left w h s i = by (images_at left w h s (i + slice_bytes w h))
   where
     by : (x : Judged (ℕ × List ℕ)) → preceded z front (x >>= λ f. good (suc f.0, rows h w (drop i s) ++ f.1)) ≡ preceded (z + 1) (front ++ rows h w (drop i s)) x
     by (good (d, l)) = let e : z + suc d ≡ z + 1 + d = omega arith in λ j. good (e j, sym (append_assoc front (rows h w (drop i s)) l) j)
@@ -53,37 +53,37 @@ module _ (w h : ℕ) (s places : List ℕ) (z i : ℕ) (room : z < length places
       ∙ ap (rows_at w h s) (take-suc-set places z i room)
       ∙ rows-at-end w h s (take z places) i
 
-  place_kept : Places w h s places z → z < 256 → i + sliceBytes w h ≤ length s → Places w h s (set places z i) (z + 1)
+  place_kept : Places w h s places z → z < 256 → i + slice_bytes w h ≤ length s → Places w h s (set places z i) (z + 1)
   place_kept P few l = record {
     many = simp length-set P.many;
     few = omega arith;
-    inside = below_more (λ k. get_or (set places z i) k 0 + sliceBytes w h ≤ length s) z
+    inside = below_more (λ k. get_or (set places z i) k 0 + slice_bytes w h ≤ length s) z
         (λ k b. (let e = get_or-set_other places z k i 0 (λ q. omega arith) in let m = P.inside k b in omega arith))
         (let e = get_or-set_same places z i 0 room in omega arith);
   }
 
 -- a slice's bytes are behind the place that was found
 pub rows_in : {w h : ℕ} {s : List ℕ} {at : ℕ} {f : PlaceRead} {i c : ℕ} → ImageIs w h s at f → f ≡ At i → SliceBytes w h c → i + c ≤ length s
-rows_in {w} {h} {s} {at} F e C = let x = image-in w h s at (sym F.is ∙ ap judgedPlace e) in let y = C.is in omega arith
+rows_in {w} {h} {s} {at} F e C = let x = image-in w h s at (sym F.is ∙ ap judged_place e) in let y = C.is in omega arith
 
 -- ---- the loop
 pub record Keeping (w h : ℕ) (s places : List ℕ) (at z : ℕ) : Type 0 where
   pub inside : at ≤ length s
   pub kept : Places w h s places z
-  pub rest : preceded z (rows_at w h s (take z places)) (imagesAt (256 - z) w h s at) ≡ imagesAt 256 w h s 0
+  pub rest : preceded z (rows_at w h s (take z places)) (images_at (256 - z) w h s at) ≡ images_at 256 w h s 0
 
 no-places : (w h : ℕ) (s places : List ℕ) → length places ≡ 256 → Places w h s places 0
 no-places w h s places n = record { many = n; few = omega arith; inside = below_none _ }
 
 pub keeping_start : (w h : ℕ) (s places : List ℕ) → length places ≡ 256 → Keeping w h s places 0 0
 unfolding rows_at
-keeping_start w h s places n = record { inside = omega arith; kept = no-places w h s places n; rest = preceded-none (imagesAt 256 w h s 0) }
+keeping_start w h s places n = record { inside = omega arith; kept = no-places w h s places n; rest = preceded-none (images_at 256 w h s 0) }
 
 module _ {w h : ℕ} {s places : List ℕ} {at z : ℕ} (K : Keeping w h s places at z) where
   pub keeping-range : SliceSides w h → ImageRange s at w h
   keeping-range S = record { inside = K.inside; sides = S }
 
-  refused : {n p : ℕ} → imagesAt (256 - z) w h s at ≡ wrong n p → ImagesAre w h s places (NoDepth n p)
+  refused : {n p : ℕ} → images_at (256 - z) w h s at ≡ wrong n p → ImagesAre w h s places (NoDepth n p)
   unfolding preceded
   refused e = record { is = sym (off _ e) ∙ K.rest; kept = no-places w h s places K.kept.many }
 
@@ -102,19 +102,19 @@ module _ {w h : ℕ} {s places : List ℕ} {at z : ℕ} (K : Keeping w h s place
     more e = omega arith
 
     pub keeping-full : z ≡ 256 → ImagesAre w h s places (NoDepth 26 at)
-    keeping-full e = let k : 256 - z ≡ 0 = omega arith in refused (ap (λ (x : ℕ). imagesAt x w h s at) k ∙ images-full w h s at more)
+    keeping-full e = let k : 256 - z ≡ 0 = omega arith in refused (ap (λ (x : ℕ). images_at x w h s at) k ∙ images-full w h s at more)
 
     module _ (m : z ≡ 256 → ⊥) {f : PlaceRead} (F : ImageIs w h s at f) where
-      next : imagesAt (256 - z) w h s at ≡ (judgedPlace f >>= followed (256 - (z + 1)) w h s)
+      next : images_at (256 - z) w h s at ≡ (judged_place f >>= followed (256 - (z + 1)) w h s)
       next =
           let few = K.kept.few in
           let k : 256 - z ≡ suc (256 - (z + 1)) = omega arith in
-          ap (λ (x : ℕ). imagesAt x w h s at) k
+          ap (λ (x : ℕ). images_at x w h s at) k
           ∙ images-more w h s at more (256 - (z + 1))
           ∙ ap (λ (x : Judged ℕ). x >>= followed (256 - (z + 1)) w h s) (sym F.is)
 
       pub keeping-not : {n p : ℕ} → f ≡ NotAt n p → ImagesAre w h s places (NoDepth n p)
-      keeping-not e = refused (next ∙ off _ (ap judgedPlace e))
+      keeping-not e = refused (next ∙ off _ (ap judged_place e))
 
       module _ {i c : ℕ} (e : f ≡ At i) (C : SliceBytes w h c) where
         pub keeping-next : Keeping w h s (set places z i) (i + c) (z + 1)
@@ -130,8 +130,8 @@ module _ {w h : ℕ} {s places : List ℕ} {at z : ℕ} (K : Keeping w h s place
               inside = inside;
               kept = place_kept w h s places z i room K.kept (omega arith) (omega arith);
               rest =
-                  (λ j. preceded (z + 1) (rows-kept w h s places z i room j) (imagesAt left w h s (i + size j)))
+                  (λ j. preceded (z + 1) (rows-kept w h s places z i room j) (images_at left w h s (i + size j)))
                   ∙ sym (preceded-more z front left w h s i)
-                  ∙ ap (preceded z front) (sym (next ∙ on _ (ap judgedPlace e)))
+                  ∙ ap (preceded z front) (sym (next ∙ on _ (ap judged_place e)))
                   ∙ K.rest;
             }

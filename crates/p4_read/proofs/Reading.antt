@@ -11,42 +11,42 @@ use borrow.Author.Tests.{le-leb, lt-leb}
 use Rattle.rules.specs.declared.Stack.{Stack}
 use Rattle.rules.specs.declared.Reading.{Reading}
 use Rattle.rules.specs.declared.Reading.TheVariants.{Read, Unread}
-use Rattle.rules.specs.Solids.{sliceBytes, stackBytes}
-use Rattle.rules.specs.P4.{Judged, good, wrong, ◌>>=◌, judge, imagesAt, Contents, contents, reading, readAnswer, stored, sizes, ReadPromise}
+use Rattle.rules.specs.Solids.{slice_bytes, stack_bytes}
+use Rattle.rules.specs.P4.{Judged, good, wrong, ◌>>=◌, judge, images_at, Contents, contents, reading, read_answer, stored, sizes, ReadPromise}
 use Rattle.p4_laws.specs.Judging.{on, off, pass, fail}
 use Rattle.p4_laws.specs.Headers.{header-in}
 use Rattle.p4_laws.specs.Images.{counted}
 use Rattle.stack.specs.Bytes.{SliceSides, SliceBytes}
 use Rattle.p4_header.specs.declared.HeaderRead.{HeaderRead}
 use Rattle.p4_header.specs.declared.HeaderRead.TheVariants.{Sizes, NoSizes}
-use Rattle.p4_header.specs.Reads.{judgedHeader, HeaderIs}
+use Rattle.p4_header.specs.Reads.{judged_header, HeaderIs}
 use Rattle.p4_read.specs.declared.DepthRead.{DepthRead}
 use Rattle.p4_read.specs.declared.DepthRead.TheVariants.{Depth, NoDepth}
-use Rattle.p4_read.specs.Images.{rows_at, judgedDepth, depth_of, Places, ImagesAre, StoreRoom, FirstSizes}
+use Rattle.p4_read.specs.Images.{rows_at, judged_depth, depth_of, Places, ImagesAre, StoreRoom, FirstSizes}
 
 -- ---- what is read is refused, or stored
 module _ {s out : List ℕ} where
   promise-wrong : {n p : ℕ} → reading s (length out) ≡ wrong n p → ReadPromise s out out (Unread n p)
-  unfolding readAnswer stored
-  promise-wrong q = record { answers = sym (ap readAnswer q); leaves = sym (ap (λ (x : Judged Contents). stored (λ c. c.bytes) x out) q) }
+  unfolding read_answer stored
+  promise-wrong q = record { answers = sym (ap read_answer q); leaves = sym (ap (λ (x : Judged Contents). stored (λ c. c.bytes) x out) q) }
 
   promise-good : {c : Contents} {after : List ℕ} → reading s (length out) ≡ good c → after ≡ c.bytes ++ drop (length c.bytes) out → ReadPromise s out after (Read c.stack)
-  unfolding readAnswer stored
-  promise-good q e = record { answers = sym (ap readAnswer q); leaves = e ∙ sym (ap (λ (x : Judged Contents). stored (λ c. c.bytes) x out) q) }
+  unfolding read_answer stored
+  promise-good q e = record { answers = sym (ap read_answer q); leaves = e ∙ sym (ap (λ (x : Judged Contents). stored (λ c. c.bytes) x out) q) }
 
 -- ---- the first header
 pub read-refused : (s out : List ℕ) {r : HeaderRead} {n p : ℕ} → HeaderIs s 0 r → r ≡ NoSizes n p → ReadPromise s out out (Unread n p)
 unfolding reading contents
-read-refused s out H e = promise-wrong (off _ (off _ (sym H.is ∙ ap judgedHeader e)))
+read-refused s out H e = promise-wrong (off _ (off _ (sym H.is ∙ ap judged_header e)))
 
 pub first-sizes : {s : List ℕ} {r : HeaderRead} {w h i : ℕ} → HeaderIs s 0 r → r ≡ Sizes w h i → FirstSizes s w h
-first-sizes {i = i} H e = record { next = i; is = sym H.is ∙ ap judgedHeader e }
+first-sizes {i = i} H e = record { next = i; is = sym H.is ∙ ap judged_header e }
 
 module _ {s : List ℕ} {w h : ℕ} (F : FirstSizes s w h) where
   pub first-sides : SliceSides w h
   first-sides = let x = header-in s 0 F.is in record { wide = x.wide; high = x.high.most }
 
-  contents-is : contents s ≡ (imagesAt 256 w h s 0 >>= λ f. good (record { stack = sizes w h f.0; bytes = f.1 }))
+  contents-is : contents s ≡ (images_at 256 w h s 0 >>= λ f. good (record { stack = sizes w h f.0; bytes = f.1 }))
   unfolding contents
   contents-is = on _ F.is
 
@@ -54,17 +54,17 @@ module _ {s : List ℕ} {w h : ℕ} (F : FirstSizes s w h) where
   module _ {places : List ℕ} {r : DepthRead} (I : ImagesAre w h s places r) where
     pub images-refused : {n p : ℕ} (out : List ℕ) → r ≡ NoDepth n p → ReadPromise s out out (Unread n p)
     unfolding reading
-    images-refused out e = promise-wrong (off _ (contents-is ∙ off _ (sym I.is ∙ ap (judgedDepth w h s places) e)))
+    images-refused out e = promise-wrong (off _ (contents-is ∙ off _ (sym I.is ∙ ap (judged_depth w h s places) e)))
 
     module _ {d c : ℕ} (e : r ≡ Depth d) (C : SliceBytes w h c) where
       abbrev all : List ℕ
       all = rows_at w h s (take d places)
 
-      images : imagesAt 256 w h s 0 ≡ good (d, all)
-      images = sym I.is ∙ ap (judgedDepth w h s places) e
+      images : images_at 256 w h s 0 ≡ good (d, all)
+      images = sym I.is ∙ ap (judged_depth w h s places) e
 
       judged : (out : List ℕ) → reading s (length out) ≡ (judge (leb (d * c) (length out)) 27 (d * c) >>= λ _. good (record { stack = sizes w h d; bytes = all }))
-      unfolding reading stackBytes
+      unfolding reading stack_bytes
       judged out =
           on _ (contents-is ∙ on _ images)
           ∙ ap (λ (x : ℕ). judge (leb (d * x) (length out)) 27 (d * x) >>= λ _. good (record { stack = sizes w h d; bytes = all })) (sym C.is)

@@ -7,7 +7,7 @@ use native.Mathlib.Numerals.{add-one}
 use native.Mathlib.Omega.{arith}
 use lib.ListN.{length, get_or, take, drop, length-drop}
 use lib.Seq.{sets}
-use Rattle.rules.specs.Solids.{rowBytes, sliceBytes}
+use Rattle.rules.specs.Solids.{row_bytes, slice_bytes}
 use Rattle.rules.specs.P4.{rows}
 use Rattle.stack.specs.Bytes.{SliceBytes}
 use Rattle.text.specs.Places.{drop_here}
@@ -19,14 +19,14 @@ use Rattle.p4_read.specs.Images.{rows_at, StoreRoom}
 pub record Storing (w h : ℕ) (s places : List ℕ) (depth : ℕ) (first out : List ℕ) (o z : ℕ) : Type 0 where
   pub same : length out ≡ length first
   pub count : z ≤ depth
-  pub reached : o ≡ z * sliceBytes w h
+  pub reached : o ≡ z * slice_bytes w h
   pub rest : sets out o (rows_at w h s (take (depth - z) (drop z places))) ≡ sets first 0 (rows_at w h s (take depth places))
 
 pub storing-start : (w h : ℕ) (s places : List ℕ) (depth : ℕ) (out : List ℕ) → Storing w h s places depth out out 0 0
 storing-start w h s places depth out = record {
   same = refl;
   count = omega arith;
-  reached = sym (zero-mul (sliceBytes w h));
+  reached = sym (zero-mul (slice_bytes w h));
   rest = ap (λ (k : ℕ). sets out 0 (rows_at w h s (take k places))) (sub-zero depth);
 }
 
@@ -37,22 +37,22 @@ module _ {w h : ℕ} {s places : List ℕ} {depth : ℕ} {first out : List ℕ} 
 
   module _ (R : StoreRoom w h s places depth first) (l : z < depth) where
     -- the slice lies inside the buffer
-    slice-room : o + sliceBytes w h ≤ length first
+    slice-room : o + slice_bytes w h ≤ length first
     slice-room =
         let a = S.reached in
-        let b = suc-mul z (sliceBytes w h) in
-        let c : suc z * sliceBytes w h ≤ depth * sliceBytes w h = mul-le-mul_right (sliceBytes w h) l in
+        let b = suc-mul z (slice_bytes w h) in
+        let c : suc z * slice_bytes w h ≤ depth * slice_bytes w h = mul-le-mul_right (slice_bytes w h) l in
         let d = R.target in
         omega arith
 
     -- and any image's rows, or fewer, can be copied there
-    pub storing-room : (y g : ℕ) → y < depth → g ≤ h → CopyRoom s (get_or places y 0) out o (sliceBytes w g)
-    unfolding sliceBytes
+    pub storing-room : (y g : ℕ) → y < depth → g ≤ h → CopyRoom s (get_or places y 0) out o (slice_bytes w g)
+    unfolding slice_bytes
     storing-room y g q f =
         let x = slice-room in
         let same = S.same in
         let u = R.source.inside y q in
-        let v = mul-le-mul_right (rowBytes w) f in
+        let v = mul-le-mul_right (row_bytes w) f in
         record { source = omega arith; target = omega arith }
 
     module _ {c : ℕ} (C : SliceBytes w h c) where
@@ -61,7 +61,7 @@ module _ {w h : ℕ} {s places : List ℕ} {depth : ℕ} {first out : List ℕ} 
 
       pub storing-next : {after : List ℕ} → length after ≡ length out → after ≡ sets out o (rows h w (drop (get_or places z 0) s))
           → Storing w h s places depth first after (o + c) (z + 1)
-      unfolding rows_at sliceBytes
+      unfolding rows_at slice_bytes
       storing-next {after} m e =
           let a = S.same in
           let b = S.reached in
@@ -69,12 +69,12 @@ module _ {w h : ℕ} {s places : List ℕ} {depth : ℕ} {first out : List ℕ} 
           let few = R.source.few in
           let many = R.source.many in
           let u = R.source.inside z l in
-          let f = suc-mul z (sliceBytes w h) in
-          let k = ap (λ (x : ℕ). x * sliceBytes w h) (add-one z) in
+          let f = suc-mul z (slice_bytes w h) in
+          let k = ap (λ (x : ℕ). x * slice_bytes w h) (add-one z) in
           let v : depth - z ≡ suc (depth - (z + 1)) = omega arith in
           let these = rows h w (drop (get_or places z 0) s) in
           let others = rows_at w h s (take (depth - (z + 1)) (drop (z + 1) places)) in
-          let long : length these ≡ sliceBytes w h = length-rows w R.sides.wide.some h (drop (get_or places z 0) s) (simp length-drop (omega arith)) in
+          let long : length these ≡ slice_bytes w h = length-rows w R.sides.wide.some h (drop (get_or places z 0) s) (simp length-drop (omega arith)) in
           record {
             same = m ∙ a;
             count = omega arith;

@@ -1,16 +1,16 @@
 -- What the reader's inner functions ask and answer. No public promise cites these.
 use Rattle.std.specs.Prelude.{◌≡◌, List, [], ◌∷◌, ◌++◌, ℕ, ◌+◌, ◌*◌, ◌≤◌, ◌<◌, length, get_or, take, drop}
-use Rattle.rules.specs.Solids.{sliceBytes}
-use Rattle.rules.specs.P4.{Judged, good, wrong, rows, header_at, imageAt, imagesAt}
+use Rattle.rules.specs.Solids.{slice_bytes}
+use Rattle.rules.specs.P4.{Judged, good, wrong, rows, header_at, image_at, images_at}
 use Rattle.stack.specs.Bytes.{SliceSides}
 use Rattle.p4_header.specs.declared.PlaceRead.{PlaceRead}
-use Rattle.p4_header.specs.Reads.{judgedPlace}
+use Rattle.p4_header.specs.Reads.{judged_place}
 use Rattle.p4_read.specs.declared.DepthRead.{DepthRead}
 use Rattle.p4_read.specs.declared.DepthRead.TheVariants.{Depth, NoDepth}
 
 -- ---- one image
 pub record ImageIs (width height : ℕ) (s : List ℕ) (at : ℕ) (r : PlaceRead) : Type 0 where
-  pub is : judgedPlace r ≡ imageAt width height s at
+  pub is : judged_place r ≡ image_at width height s at
 
 pub record ImageRange (s : List ℕ) (at width height : ℕ) : Type 0 where
   pub inside : at ≤ length s
@@ -27,24 +27,24 @@ rows_at width height s (place ∷ places) = rows height width (drop place s) ++ 
 pub record Places (width height : ℕ) (s places : List ℕ) (depth : ℕ) : Type 0 where
   pub many : length places ≡ 256
   pub few : depth ≤ 256
-  pub inside : (z : ℕ) → z < depth → get_or places z 0 + sliceBytes width height ≤ length s
+  pub inside : (z : ℕ) → z < depth → get_or places z 0 + slice_bytes width height ≤ length s
 
-abbrev pub judgedDepth : ℕ → ℕ → List ℕ → List ℕ → DepthRead → Judged (ℕ × List ℕ)
-judgedDepth width height s places (Depth d) = good (d, rows_at width height s (take d places))
-judgedDepth width height s places (NoDepth n p) = wrong n p
+abbrev pub judged_depth : ℕ → ℕ → List ℕ → List ℕ → DepthRead → Judged (ℕ × List ℕ)
+judged_depth width height s places (Depth d) = good (d, rows_at width height s (take d places))
+judged_depth width height s places (NoDepth n p) = wrong n p
 
 abbrev pub depth_of : DepthRead → ℕ
 depth_of (Depth d) = d
 depth_of (NoDepth n p) = 0
 
 pub record ImagesAre (width height : ℕ) (s places : List ℕ) (r : DepthRead) : Type 0 where
-  pub is : judgedDepth width height s places r ≡ imagesAt 256 width height s 0
+  pub is : judged_depth width height s places r ≡ images_at 256 width height s 0
   pub kept : Places width height s places (depth_of r)
 
 pub record StoreRoom (width height : ℕ) (s places : List ℕ) (depth : ℕ) (out : List ℕ) : Type 0 where
   pub sides : SliceSides width height
   pub source : Places width height s places depth
-  pub target : depth * sliceBytes width height ≤ length out
+  pub target : depth * slice_bytes width height ≤ length out
 
 -- the first image has this size
 pub record FirstSizes (s : List ℕ) (width height : ℕ) : Type 0 where

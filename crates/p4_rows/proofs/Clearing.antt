@@ -6,7 +6,7 @@ use native.Mathlib.Nat.{suc-mul, zero-mul, div-mul-le_self, mod-eq_of_lt}
 use native.Mathlib.Omega.{arith}
 use lib.ListN.{length, get_or, take, drop, set, length-set, length-drop}
 use lib.Seq.{sets, length-sets, set-get_or, set-set, get_or-set_same, take-add, length-take-le, take-suc}
-use Rattle.rules.specs.Solids.{rowBytes, sliceBytes}
+use Rattle.rules.specs.Solids.{row_bytes, slice_bytes}
 use Rattle.rules.specs.P4.{padding, cut, row, rows}
 use Rattle.stack.specs.Bytes.{SliceSides, RowBytes, SliceBytes}
 use Rattle.text.specs.Puts.{sets-append}
@@ -15,11 +15,11 @@ use Rattle.p4_laws.specs.Rows.{row-some, length-row}
 use Rattle.p4_rows.specs.Copies.{Padding, CopyRoom, RowRoom, cleared}
 
 pub padding-bits : (w : ℕ) → Padding w ((8 - w % 8) % 8)
-unfolding padding rowBytes
+unfolding padding row_bytes
 padding-bits w = record { is = omega arith; small = omega arith }
 
 pub padding-none : (w : ℕ) → w % 8 ≡ 0 → padding w ≡ 0
-unfolding padding rowBytes
+unfolding padding row_bytes
 padding-none w e = omega arith
 
 pub shifts : (b k : ℕ) → b < 256 → b / 2 ^ k * 2 ^ k % 256 ≡ b / 2 ^ k * 2 ^ k
@@ -29,7 +29,7 @@ shifts b k h = let d = div-mul-le_self b (2 ^ k) in mod-eq_of_lt (omega arith)
 
 pub record Clearing (first : List ℕ) (at w count : ℕ) (out : List ℕ) (o left : ℕ) : Type 0 where
   pub same : length out ≡ length first
-  pub room : o + left * rowBytes w ≤ length first
+  pub room : o + left * row_bytes w ≤ length first
   pub rest : cleared left w out o ≡ cleared count w first at
 
 pub clearing-start : {out : List ℕ} {at w count : ℕ} → RowRoom out at w count → Clearing out at w count out at count
@@ -40,8 +40,8 @@ module _ {first out : List ℕ} {at w count o left : ℕ} (C : Clearing first at
     counted : left ≡ suc (left - 1)
     counted = omega arith
 
-    less : left * rowBytes w ≡ rowBytes w + (left - 1) * rowBytes w
-    less = ap (λ (x : ℕ). x * rowBytes w) counted ∙ (let n = suc-mul (left - 1) (rowBytes w) in omega arith)
+    less : left * row_bytes w ≡ row_bytes w + (left - 1) * row_bytes w
+    less = ap (λ (x : ℕ). x * row_bytes w) counted ∙ (let n = suc-mul (left - 1) (row_bytes w) in omega arith)
 
     pub clearing-room : o + b ≤ length out
     clearing-room = let s = C.same in let r = C.room in let e = B.is in let m = less in omega arith
@@ -69,62 +69,62 @@ pub cleared-none : (r w : ℕ) (out : List ℕ) (at : ℕ) → padding w ≡ 0 �
 unfolding cleared cut
 cleared-none zero w out at e = refl
 cleared-none (suc r) w out at e =
-    let i = at + (rowBytes w - 1) in
+    let i = at + (row_bytes w - 1) in
     let b = get_or out i 0 in
     let k : b / 2 ^ padding w * 2 ^ padding w ≡ b = ap (λ (x : ℕ). b / 2 ^ x * 2 ^ x) e ∙ omega arith in
-    ap (λ (x : List ℕ). cleared r w x (at + rowBytes w)) (ap (set out i) k ∙ set-get_or out i 0) ∙ cleared-none r w out (at + rowBytes w) e
+    ap (λ (x : List ℕ). cleared r w x (at + row_bytes w)) (ap (set out i) k ∙ set-get_or out i 0) ∙ cleared-none r w out (at + row_bytes w) e
 
 module _ (w : ℕ) (some : 1 ≤ w) where
   -- one row of a plain copy, whatever is stored behind it
-  module _ (out bs rest : List ℕ) (at : ℕ) (enough : rowBytes w ≤ length bs) (room : at + rowBytes w ≤ length out) where
+  module _ (out bs rest : List ℕ) (at : ℕ) (enough : row_bytes w ≤ length bs) (room : at + row_bytes w ≤ length out) where
     last : ℕ
-    last = at + (rowBytes w - 1)
+    last = at + (row_bytes w - 1)
 
     body : List ℕ
-    body = sets out at (take (rowBytes w - 1) bs)
+    body = sets out at (take (row_bytes w - 1) bs)
 
-    body-length : length (take (rowBytes w - 1) bs) ≡ rowBytes w - 1
-    body-length = length-take-le (rowBytes w - 1) bs (omega arith)
+    body-length : length (take (row_bytes w - 1) bs) ≡ row_bytes w - 1
+    body-length = length-take-le (row_bytes w - 1) bs (omega arith)
 
-    ended : (v : ℕ) → sets out at (take (rowBytes w - 1) bs ++ (v ∷ [])) ≡ set body last v
+    ended : (v : ℕ) → sets out at (take (row_bytes w - 1) bs ++ (v ∷ [])) ≡ set body last v
     unfolding last body
-    ended v = sets-append out at (take (rowBytes w - 1) bs) (v ∷ []) ∙ ap (λ (k : ℕ). set (sets out at (take (rowBytes w - 1) bs)) (at + k) v) body-length
+    ended v = sets-append out at (take (row_bytes w - 1) bs) (v ∷ []) ∙ ap (λ (k : ℕ). set (sets out at (take (row_bytes w - 1) bs)) (at + k) v) body-length
 
-    whole : take (rowBytes w) bs ≡ take (rowBytes w - 1) bs ++ (get_or bs (rowBytes w - 1) 0 ∷ [])
-    whole = let n = row-some w some in let k : rowBytes w ≡ suc (rowBytes w - 1) = omega arith in ap (λ (x : ℕ). take x bs) k ∙ take-suc bs (rowBytes w - 1) 0 (omega arith)
+    whole : take (row_bytes w) bs ≡ take (row_bytes w - 1) bs ++ (get_or bs (row_bytes w - 1) 0 ∷ [])
+    whole = let n = row-some w some in let k : row_bytes w ≡ suc (row_bytes w - 1) = omega arith in ap (λ (x : ℕ). take x bs) k ∙ take-suc bs (row_bytes w - 1) 0 (omega arith)
 
     stored : List ℕ
-    stored = sets body (at + rowBytes w) rest
+    stored = sets body (at + row_bytes w) rest
 
-    at_last : (v : ℕ) → sets (set body last v) (at + rowBytes w) rest ≡ set stored last v
+    at_last : (v : ℕ) → sets (set body last v) (at + row_bytes w) rest ≡ set stored last v
     unfolding stored last
-    at_last v = let n = row-some w some in set-sets body (at + (rowBytes w - 1)) (at + rowBytes w) v rest (omega arith)
+    at_last v = let n = row-some w some in set-sets body (at + (row_bytes w - 1)) (at + row_bytes w) v rest (omega arith)
 
-    plain : sets (sets out at (take (rowBytes w) bs)) (at + rowBytes w) rest ≡ set stored last (get_or bs (rowBytes w - 1) 0)
-    plain = ap (λ (l : List ℕ). sets l (at + rowBytes w) rest) (ap (sets out at) whole ∙ ended (get_or bs (rowBytes w - 1) 0)) ∙ at_last (get_or bs (rowBytes w - 1) 0)
+    plain : sets (sets out at (take (row_bytes w) bs)) (at + row_bytes w) rest ≡ set stored last (get_or bs (row_bytes w - 1) 0)
+    plain = ap (λ (l : List ℕ). sets l (at + row_bytes w) rest) (ap (sets out at) whole ∙ ended (get_or bs (row_bytes w - 1) 0)) ∙ at_last (get_or bs (row_bytes w - 1) 0)
 
     last-in : last < length stored
     unfolding last stored body
     last-in = let n = row-some w some in simp length-sets (omega arith)
 
     row_cut :
-        (let x = sets (sets out at (take (rowBytes w) bs)) (at + rowBytes w) rest in set x (at + (rowBytes w - 1)) (cut w (get_or x (at + (rowBytes w - 1)) 0)))
-        ≡ sets (sets out at (row w bs)) (at + rowBytes w) rest
+        (let x = sets (sets out at (take (row_bytes w) bs)) (at + row_bytes w) rest in set x (at + (row_bytes w - 1)) (cut w (get_or x (at + (row_bytes w - 1)) 0)))
+        ≡ sets (sets out at (row w bs)) (at + row_bytes w) rest
     unfolding last row
     row_cut =
-        let b = get_or bs (rowBytes w - 1) 0 in
+        let b = get_or bs (row_bytes w - 1) 0 in
         ap (λ (x : List ℕ). set x last (cut w (get_or x last 0))) plain
         ∙ ap (λ (v : ℕ). set (set stored last b) last (cut w v)) (get_or-set_same stored last b 0 last-in)
         ∙ set-set stored last b (cut w b)
         ∙ sym (at_last (cut w b))
-        ∙ ap (λ (l : List ℕ). sets l (at + rowBytes w) rest) (sym (ended (cut w b)))
+        ∙ ap (λ (l : List ℕ). sets l (at + row_bytes w) rest) (sym (ended (cut w b)))
 
-  pub cleared-rows : (r : ℕ) (out bs : List ℕ) (at : ℕ) → r * rowBytes w ≤ length bs → at + r * rowBytes w ≤ length out
-      → cleared r w (sets out at (take (r * rowBytes w) bs)) at ≡ sets out at (rows r w bs)
+  pub cleared-rows : (r : ℕ) (out bs : List ℕ) (at : ℕ) → r * row_bytes w ≤ length bs → at + r * row_bytes w ≤ length out
+      → cleared r w (sets out at (take (r * row_bytes w) bs)) at ≡ sets out at (rows r w bs)
   unfolding cleared rows
-  cleared-rows zero out bs at h l = ap (λ (k : ℕ). sets out at (take k bs)) (zero-mul (rowBytes w))
+  cleared-rows zero out bs at h l = ap (λ (k : ℕ). sets out at (take k bs)) (zero-mul (row_bytes w))
   cleared-rows (suc r) out bs at h l =
-      let n = rowBytes w in
+      let n = row_bytes w in
       let m = suc-mul r n in
       let f : suc r * n ≡ n + r * n = omega arith in
       let t = take (r * n) (drop n bs) in
@@ -141,10 +141,10 @@ module _ (w : ℕ) (some : 1 ≤ w) where
       ∙ sym (sets-append out at (row w bs) (rows r w (drop n bs)))
 
 -- ---- both ways out of the copy of an image's rows
-module _ {src out mid : List ℕ} {from to w h size : ℕ} (S : SliceSides w h) (R : CopyRoom src from out to (sliceBytes w h)) (Z : SliceBytes w h size)
+module _ {src out mid : List ℕ} {from to w h size : ℕ} (S : SliceSides w h) (R : CopyRoom src from out to (slice_bytes w h)) (Z : SliceBytes w h size)
     (M : mid ≡ sets out to (take size (drop from src))) where
   copied : cleared h w mid to ≡ sets out to (rows h w (drop from src))
-  unfolding sliceBytes
+  unfolding slice_bytes
   copied =
       let s = R.source in
       ap (λ (l : List ℕ). cleared h w l to) (M ∙ ap (λ (k : ℕ). sets out to (take k (drop from src))) Z.is)
@@ -157,5 +157,5 @@ module _ {src out mid : List ℕ} {from to w h size : ℕ} (S : SliceSides w h) 
   rows-cleared e = e ∙ copied
 
   pub clear_room : length mid ≡ length out → RowRoom mid to w h
-  unfolding sliceBytes
+  unfolding slice_bytes
   clear_room l = record { wide = S.wide; target = let s = R.target in omega arith }

@@ -1,7 +1,7 @@
 // A copy of the rows of one image, with padding bits zero.
 ghost use Rattle.std.specs.Prelude.{◌≡◌, ◌/◌, ◌*◌, ◌^◌, ◌<◌, take, drop};
 ghost use Rattle.std.proofs.lemmas.List.Edits.{sets};
-ghost use Rattle.rules.specs.Solids.{sliceBytes};
+ghost use Rattle.rules.specs.Solids.{slice_bytes};
 ghost use Rattle.rules.specs.P4.{rows};
 ghost use Rattle.stack.specs.Bytes.{SliceSides};
 ghost use Rattle.p4_rows.specs.Copies.{Padding, CopyRoom, RowRoom, cleared};
@@ -52,7 +52,7 @@ fn clear_padding(out: &mut [u8], at: usize, width: usize, count: usize)
 
 // The rows at `from`, with padding bits zero, to `to`.
 pub fn copy_rows(src: &[u8], from: usize, out: &mut [u8], to: usize, width: usize, height: usize)
-    requires { (SliceSides width height) × (CopyRoom src.now from out.old to (sliceBytes width height)) }
+    requires { (SliceSides width height) × (CopyRoom src.now from out.old to (slice_bytes width height)) }
     ensures { out.new ≡ sets out.old to (rows height width (drop from src.now)) }
 {
     let size = stack::slice_bytes(width, height);

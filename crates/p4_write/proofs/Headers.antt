@@ -2,7 +2,7 @@
 use mathlib.Core.List.{List, [], ◌∷◌, ◌++◌}
 use Prim.Native.Nat.{ℕ}
 use Rattle.rules.specs.Decimals.{decimal}
-use Rattle.rules.specs.P4.{plainHeader}
+use Rattle.rules.specs.P4.{plain_header}
 use Rattle.text.specs.Put.{Room, Put}
 use Rattle.text.specs.Puts.{put_then, room-first, room-then}
 use Rattle.p4_write.specs.Slices.{HeaderRoom}
@@ -18,7 +18,7 @@ module _ {out : List ℕ} {at w h : ℕ} (R : HeaderRoom out at w h) where
   after-magic = decimal w ++ after-width
 
   all : Room out at ((80 ∷ 52 ∷ 10 ∷ []) ++ after-magic)
-  unfolding plainHeader
+  unfolding plain_header
   all = R.room
 
   pub room-magic : Room out at (80 ∷ 52 ∷ 10 ∷ [])
@@ -44,6 +44,6 @@ module _ {out : List ℕ} {at w h : ℕ} (R : HeaderRoom out at w h) where
           pub room-end : (x : ℕ) → Room o₄ d (x ∷ [])
           room-end x = record { fits = (room-then (10 ∷ []) rest D).fits }
 
-          pub header-put : {o₅ : List ℕ} {e : ℕ} → Put o₄ d (10 ∷ []) o₅ e → Put out at (plainHeader w h) o₅ e
-          unfolding plainHeader
+          pub header-put : {o₅ : List ℕ} {e : ℕ} → Put o₄ d (10 ∷ []) o₅ e → Put out at (plain_header w h) o₅ e
+          unfolding plain_header
           header-put E = put_then A (put_then B (put_then {a = 32 ∷ []} C (put_then D E)))

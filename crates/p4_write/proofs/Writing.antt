@@ -12,8 +12,8 @@ use borrow.Author.Tests.{le-leb, lt-leb}
 use Rattle.rules.specs.declared.Stack.{Stack}
 use Rattle.rules.specs.declared.Writing.{Writing}
 use Rattle.rules.specs.declared.Writing.TheVariants.{Written, Unwritten}
-use Rattle.rules.specs.Solids.{rowBytes, sliceBytes, stackBytes, permittedStack}
-use Rattle.rules.specs.P4.{Judged, good, wrong, ◌>>=◌, judge, rows, plainHeader, slices, plain, sizes, writing, writeAnswer, stored, WritePromise}
+use Rattle.rules.specs.Solids.{row_bytes, slice_bytes, stack_bytes, permitted_stack}
+use Rattle.rules.specs.P4.{Judged, good, wrong, ◌>>=◌, judge, rows, plain_header, slices, plain, sizes, writing, write_answer, stored, WritePromise}
 use Rattle.stack.specs.Sides.{Sized, stack_is, permits, cast, side-kept, side-cast}
 use Rattle.stack.specs.Bytes.{SliceSides, SliceBytes}
 use Rattle.text.specs.Put.{Put}
@@ -29,7 +29,7 @@ slice-sides A = record { wide = A.sides.wide; high = A.sides.high.most }
 -- ---- the loop
 pub record Going (src first : List ℕ) (w h d : ℕ) (out : List ℕ) (at from left : ℕ) : Type 0 where
   pub same : length out ≡ length first
-  pub source : from + left * sliceBytes w h ≤ length src
+  pub source : from + left * slice_bytes w h ≤ length src
   pub room : at + length (slices left w h (drop from src)) ≡ length (slices d w h src)
   pub rest : sets out at (slices left w h (drop from src)) ≡ sets first 0 (slices d w h src)
 
@@ -45,46 +45,46 @@ going_end {src} {out = out} {w} {h} {at = at} {from = from} G e =
 
 module _ {src first out : List ℕ} {w h d at from left : ℕ} (S : SlicesRoom w h d src first) (G : Going src first w h d out at from left) (e : 0 < left) where
   behind : List ℕ
-  behind = slices (left - 1) w h (drop (from + sliceBytes w h) src)
+  behind = slices (left - 1) w h (drop (from + slice_bytes w h) src)
 
-  split : slices left w h (drop from src) ≡ plainHeader w h ++ (rows h w (drop from src) ++ behind)
+  split : slices left w h (drop from src) ≡ plain_header w h ++ (rows h w (drop from src) ++ behind)
   unfolding behind
   split =
       slices-more w h left (drop from src) e
-      ∙ ap (λ (x : List ℕ). plainHeader w h ++ (rows h w (drop from src) ++ slices (left - 1) w h x)) (drop-drop (sliceBytes w h) from src)
+      ∙ ap (λ (x : List ℕ). plain_header w h ++ (rows h w (drop from src) ++ slices (left - 1) w h x)) (drop-drop (slice_bytes w h) from src)
 
-  less : left * sliceBytes w h ≡ sliceBytes w h + (left - 1) * sliceBytes w h
+  less : left * slice_bytes w h ≡ slice_bytes w h + (left - 1) * slice_bytes w h
   less =
       let z : left ≡ suc (left - 1) = omega arith in
-      ap (λ (x : ℕ). x * sliceBytes w h) z ∙ (let m = suc-mul (left - 1) (sliceBytes w h) in omega arith)
+      ap (λ (x : ℕ). x * slice_bytes w h) z ∙ (let m = suc-mul (left - 1) (slice_bytes w h) in omega arith)
 
-  rows-there : from + sliceBytes w h ≤ length src
+  rows-there : from + slice_bytes w h ≤ length src
   rows-there = let s = G.source in let m = less in omega arith
 
-  rows-many : length (rows h w (drop from src)) ≡ sliceBytes w h
+  rows-many : length (rows h w (drop from src)) ≡ slice_bytes w h
   rows-many = let i = rows-there in slice_rows w h S.ask.sides.wide.some (drop from src) (simp length-drop (omega arith))
 
-  fills : at + (length (plainHeader w h) + (sliceBytes w h + length behind)) ≡ length (slices d w h src)
+  fills : at + (length (plain_header w h) + (slice_bytes w h + length behind)) ≡ length (slices d w h src)
   fills =
       let r = rows-many in
-      let l = ap length split ∙ length-append (plainHeader w h) (rows h w (drop from src) ++ behind) ∙ ap (λ (x : ℕ). length (plainHeader w h) + x) (length-append (rows h w (drop from src)) behind) in
+      let l = ap length split ∙ length-append (plain_header w h) (rows h w (drop from src) ++ behind) ∙ ap (λ (x : ℕ). length (plain_header w h) + x) (length-append (rows h w (drop from src)) behind) in
       let m = G.room in
       omega arith
 
   pub header-room : HeaderRoom out at w h
   header-room = let f = fills in let m = G.same in let t = S.target in record { sides = slice-sides S.ask; room = record { fits = omega arith } }
 
-  module _ {mid : List ℕ} {o : ℕ} (P : Put out at (plainHeader w h) mid o) where
+  module _ {mid : List ℕ} {o : ℕ} (P : Put out at (plain_header w h) mid o) where
     -- for these rows, or fewer
-    pub copy-room : (g : ℕ) → length mid ≡ length out → g ≤ h → CopyRoom src from mid o (sliceBytes w g)
-    unfolding sliceBytes
+    pub copy-room : (g : ℕ) → length mid ≡ length out → g ≤ h → CopyRoom src from mid o (slice_bytes w g)
+    unfolding slice_bytes
     copy-room g l m =
         let f = fills in
         let s = G.same in
         let t = S.target in
         let p = P.past in
         let r = rows-there in
-        let v = mul-le-mul_right (rowBytes w) m in
+        let v = mul-le-mul_right (row_bytes w) m in
         record { source = omega arith; target = omega arith }
 
     module _ {size : ℕ} (Z : SliceBytes w h size) where
@@ -99,10 +99,10 @@ module _ {src first out : List ℕ} {w h d at from left : ℕ} (S : SlicesRoom w
       going_next {after} c l k =
           let z = Z.is in
           let r = rows-many in
-          let Q : Put mid o (rows h w (drop from src)) after (o + sliceBytes w h) = record { is = c; past = ap (λ (x : ℕ). o + x) (sym r) } in
+          let Q : Put mid o (rows h w (drop from src)) after (o + slice_bytes w h) = record { is = c; past = ap (λ (x : ℕ). o + x) (sym r) } in
           let B = put_then P Q in
           let p = B.past in
-          let H = plainHeader w h ++ rows h w (drop from src) in
+          let H = plain_header w h ++ rows h w (drop from src) in
           let f = fills in
           let s = G.source in
           let m = less in
@@ -113,19 +113,19 @@ module _ {src first out : List ℕ} {w h d at from left : ℕ} (S : SlicesRoom w
             source = omega arith;
             room = omega arith;
             rest =
-                ap (λ (x : ℕ). sets after x (slices (left - 1) w h (drop (from + sliceBytes w h) src))) p
-                ∙ ap (λ (x : List ℕ). sets x (at + length H) (slices (left - 1) w h (drop (from + sliceBytes w h) src))) B.is
-                ∙ sym (sets-append out at H (slices (left - 1) w h (drop (from + sliceBytes w h) src)))
-                ∙ ap (sets out at) (append_assoc (plainHeader w h) (rows h w (drop from src)) (slices (left - 1) w h (drop (from + sliceBytes w h) src)) ∙ sym split)
+                ap (λ (x : ℕ). sets after x (slices (left - 1) w h (drop (from + slice_bytes w h) src))) p
+                ∙ ap (λ (x : List ℕ). sets x (at + length H) (slices (left - 1) w h (drop (from + slice_bytes w h) src))) B.is
+                ∙ sym (sets-append out at H (slices (left - 1) w h (drop (from + slice_bytes w h) src)))
+                ∙ ap (sets out at) (append_assoc (plain_header w h) (rows h w (drop from src)) (slices (left - 1) w h (drop (from + slice_bytes w h) src)) ∙ sym split)
                 ∙ G.rest;
           })
 
 -- ---- each way out of the writer
-pub write-refused : (k : Stack) (bytes out : List ℕ) {t : Bool} → t ≡ permittedStack k bytes → t ≡ false → WritePromise k bytes out out (Unwritten 3 0)
-unfolding writing writeAnswer stored
+pub write-refused : (k : Stack) (bytes out : List ℕ) {t : Bool} → t ≡ permitted_stack k bytes → t ≡ false → WritePromise k bytes out out (Unwritten 3 0)
+unfolding writing write_answer stored
 write-refused k bytes out e f =
     let q : writing k bytes (length out) ≡ wrong 3 0 = fail 3 0 _ (sym e ∙ f) in
-    record { answers = sym (ap writeAnswer q); leaves = sym (ap (λ (x : Judged (List ℕ)). stored (λ l. l) x out) q) }
+    record { answers = sym (ap write_answer q); leaves = sym (ap (λ (x : Judged (List ℕ)). stored (λ l. l) x out) q) }
 
 module _ {bytes : List ℕ} {w h d size a b : ℕ} (S : SlicesAsk w h d bytes) (Z : SliceBytes w h size) (A : Figures w a) (B : Figures h b) where
   pub need-small : d * (5 + (a + b) + size) ≤ 2099968
@@ -136,7 +136,7 @@ module _ {bytes : List ℕ} {w h d size a b : ℕ} (S : SlicesAsk w h d bytes) (
       let x = A.is in
       let y = B.is in
       let z = Z.is in
-      let k : 5 + (a + b) + size ≡ length (plainHeader w h) + sliceBytes w h = omega (arith, header-length w h) in
+      let k : 5 + (a + b) + size ≡ length (plain_header w h) + slice_bytes w h = omega (arith, header-length w h) in
       ap (λ (v : ℕ). d * v) k ∙ sym (slices-length w h S.sides.wide.some d bytes S.source)
 
   judged : (n : ℕ) → writing (sizes w h d) bytes n ≡ (judge (leb (length (slices d w h bytes)) n) 27 (length (slices d w h bytes)) >>= λ _. good (slices d w h bytes))
@@ -144,24 +144,24 @@ module _ {bytes : List ℕ} {w h d size a b : ℕ} (S : SlicesAsk w h d bytes) (
   judged n = pass 3 0 _ (permits bytes S.sides S.source)
 
   pub stack-short : {out : List ℕ} → length out < d * (5 + (a + b) + size) → WritePromise (sizes w h d) bytes out out (Unwritten 27 (d * (5 + (a + b) + size)))
-  unfolding writeAnswer stored
+  unfolding write_answer stored
   stack-short {out} s =
       let n = needed in
       let q : writing (sizes w h d) bytes (length out) ≡ wrong 27 (length (slices d w h bytes)) = judged (length out) ∙ fail 27 _ _ (lt-leb (length (slices d w h bytes)) (length out) (omega arith)) in
-      record { answers = ap (Unwritten 27) n ∙ sym (ap writeAnswer q); leaves = sym (ap (λ (x : Judged (List ℕ)). stored (λ l. l) x out) q) }
+      record { answers = ap (Unwritten 27) n ∙ sym (ap write_answer q); leaves = sym (ap (λ (x : Judged (List ℕ)). stored (λ l. l) x out) q) }
 
   module _ {out : List ℕ} (s : d * (5 + (a + b) + size) ≤ length out) where
     pub slices-room : SlicesRoom w h d bytes out
     slices-room = let n = needed in record { ask = S; target = omega arith }
 
     pub stack-written : {after : List ℕ} {n : ℕ} → Put out 0 (slices d w h bytes) after n → WritePromise (sizes w h d) bytes out after (Written n)
-    unfolding writeAnswer stored
+    unfolding write_answer stored
     stack-written P =
         let L = slices d w h bytes in
         let t = slices-room.target in
         let q : writing (sizes w h d) bytes (length out) ≡ good L = judged (length out) ∙ pass 27 _ _ (le-leb (length L) (length out) t) in
         record {
-          answers = ap Written (P.past ∙ zero-add (length L)) ∙ sym (ap writeAnswer q);
+          answers = ap Written (P.past ∙ zero-add (length L)) ∙ sym (ap write_answer q);
           leaves =
               P.is
               ∙ sets-eq L out 0 (omega arith)
@@ -175,12 +175,12 @@ module _ {k : Stack} {bytes : List ℕ} (S : Sized k bytes) where
   same = let s = S.of in (λ i. sizes (side-kept s.wide i) (side-kept s.high i) (side-kept s.deep i)) ∙ sym (stack_is s)
 
   pub slices-ask : SlicesAsk (cast k.width) (cast k.height) (cast k.depth) bytes
-  unfolding stackBytes
+  unfolding stack_bytes
   slices-ask =
       let s = S.of in
       record {
         sides = record { wide = side-cast s.wide; high = side-cast s.high; deep = side-cast s.deep };
-        source = subst (λ (x : Stack). stackBytes x ≤ length bytes) (sym same) S.enough;
+        source = subst (λ (x : Stack). stack_bytes x ≤ length bytes) (sym same) S.enough;
       }
 
   pub write-cast : {out after : List ℕ} {x : Writing} → WritePromise (sizes (cast k.width) (cast k.height) (cast k.depth)) bytes out after x → WritePromise k bytes out after x

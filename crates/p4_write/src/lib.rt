@@ -1,5 +1,5 @@
 // The writer of P4 stacks: the plain form.
-ghost use Rattle.rules.specs.P4.{sizes, plainHeader, slices, WritePromise};
+ghost use Rattle.rules.specs.P4.{sizes, plain_header, slices, WritePromise};
 ghost use Rattle.stack.specs.Sides.{Side};
 ghost use Rattle.text.specs.Put.{Put};
 ghost use Rattle.p4_write.specs.Slices.{Figures, HeaderRoom, SlicesAsk, SlicesRoom};
@@ -22,7 +22,7 @@ fn figures(n: usize) -> usize
 
 fn put_header(out: &mut [u8], at: usize, width: usize, height: usize) -> usize
     requires { HeaderRoom out.old at width height }
-    ensures { Put out.old at (plainHeader width height) out.new result }
+    ensures { Put out.old at (plain_header width height) out.new result }
 {
     let w = width as u32;
     let h = height as u32;

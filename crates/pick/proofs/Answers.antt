@@ -12,7 +12,7 @@ use Rattle.rules.specs.declared.Solid.{Solid}
 use Rattle.rules.specs.declared.Check.{Check as CheckAnswer}
 use Rattle.rules.specs.declared.Check.TheVariants.{Ready as CheckReady, Refused as CheckRefused}
 use Rattle.rules.specs.declared.Pick.{Pick as PickAnswer}
-use Rattle.rules.specs.TwoCalls.{checkOf}
+use Rattle.rules.specs.TwoCalls.{check_of}
 use Rattle.call.specs.declared.Call.{Call}
 use Rattle.call.specs.declared.Call.TheVariants.{Check}
 use Rattle.call.specs.declared.Outcome.{Outcome}
@@ -41,7 +41,7 @@ checked-settled (CheckRefused r) (CheckRefused t) e = cc
 
 module _ {p : Vector} {solid : Solid} {bytes : List ℕ} {frame reach : ℤ} {o : Outcome} (h : CallMade (Check p) solid bytes frame reach o) where
   pub check-ends : EndsCheck o
-  check-ends = rw h.is (checks (checkOf solid bytes p frame reach))
+  check-ends = rw h.is (checks (check_of solid bytes p frame reach))
 
-  pub check-ends-in : (r : CheckAnswer) → o ≡ checked r → r ≡ checkOf solid bytes p frame reach
-  check-ends-in r e = checked-settled r (checkOf solid bytes p frame reach) (sym e ∙ h.is)
+  pub check-ends-in : (r : CheckAnswer) → o ≡ checked r → r ≡ check_of solid bytes p frame reach
+  check-ends-in r e = checked-settled r (check_of solid bytes p frame reach) (sym e ∙ h.is)

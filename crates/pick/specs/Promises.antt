@@ -14,7 +14,7 @@ use Rattle.rules.specs.Solids.{look}
 use Rattle.rules.specs.Walk.{signs}
 use Rattle.rules.specs.Pick.{check, pick, answer, pick_of, WedgePromise, StackPromise}
 use Rattle.rules.specs.Touch.{touch, marked, touch_of, WedgeTouchPromise, StackTouchPromise}
-use Rattle.rules.specs.TwoCalls.{checkAnswer, checkOf, readiness, walkOn, walkAnswer, walk_of, WedgeCheckPromise, StackCheckPromise, WedgeWalkPromise, StackWalkPromise}
+use Rattle.rules.specs.TwoCalls.{check_answer, check_of, readiness, walk_on, walk_answer, walk_of, WedgeCheckPromise, StackCheckPromise, WedgeWalkPromise, StackWalkPromise}
 use Rattle.stack.specs.Alike.{Alike, alike}
 
 -- ---- of wedges
@@ -56,9 +56,9 @@ module _ {k : Stack} {a b : List ℕ} (h : Alike k a b) {frame reach : ℤ} wher
   stack-touches-alike {p} u v = u.is ∙ alike h (λ ok look. marked (answer (touch ok look p frame reach))) ∙ sym v.is
 
   pub stack-checks-alike : {p : Vector} {r t : Check} → StackCheckPromise k a p frame reach r → StackCheckPromise k b p frame reach t → r ≡ t
-  unfolding checkOf
-  stack-checks-alike {p} u v = u.is ∙ alike h (λ ok look. checkAnswer p (p ⊕ signs (nat_abs frame)) (check ok look p frame reach)) ∙ sym v.is
+  unfolding check_of
+  stack-checks-alike {p} u v = u.is ∙ alike h (λ ok look. check_answer p (p ⊕ signs (nat_abs frame)) (check ok look p frame reach)) ∙ sym v.is
 
   pub stack-walks-alike : {d : ReadyStart} {r t : Pick} → StackWalkPromise k a d frame reach r → StackWalkPromise k b d frame reach t → r ≡ t
   unfolding walk_of
-  stack-walks-alike {d} u v = u.is ∙ alike h (λ ok look. walkAnswer d.looks (readiness look d frame reach ok) (walkOn look d frame reach)) ∙ sym v.is
+  stack-walks-alike {d} u v = u.is ∙ alike h (λ ok look. walk_answer d.looks (readiness look d frame reach ok) (walk_on look d frame reach)) ∙ sym v.is

@@ -18,7 +18,7 @@ use Rattle.planes.specs.Lean.{LeansBelow}
 
 signs-square : (s : Vector) → Signs s → square s ≡ pos 3
 unfolding dot
-signs-square s g = rw (sign-square g.ofX, sign-square g.ofY, sign-square g.of_z) refl
+signs-square s g = rw (sign-square g.of_x, sign-square g.of_y, sign-square g.of_z) refl
 
 -- e² is less than 3·(ν·ν)
 wide : (ν s : Vector) (e : ℤ) → Signs s → pos 0 ≤ℤ e → e <ℤ dot ν s → (e *ℤ e +ℤ pos 1) ≤ℤ (pos 3 *ℤ square ν)

@@ -6,12 +6,12 @@ use Rattle.rules.specs.declared.Vector.{Vector}
 use Rattle.rules.specs.declared.Pair.TheVariants.{P01, P02, P10, P12, P20, P21}
 use Rattle.rules.specs.declared.Accepted.{Accepted as AcceptedPick}
 use Rattle.rules.specs.Walk.{axis0, axis1, axis2, only}
-use Rattle.rules.specs.Lean.{levelsOf}
-use Rattle.rules.specs.Firm.{Way, sideways, along, against, allWays, belongs, way_of, footing}
+use Rattle.rules.specs.Lean.{levels_of}
+use Rattle.rules.specs.Firm.{Way, sideways, along, against, all_ways, belongs, way_of, footing}
 use Rattle.laws.specs.Tests.{Each, In}
 use Rattle.laws.specs.Only.{each_of, each_map, each_member, only-holds, in-only}
 
-way_in : (w : Way) → In w allWays
+way_in : (w : Way) → In w all_ways
 way_in (sideways P01) = inl refl
 way_in (sideways P02) = inr (inl refl)
 way_in (sideways P10) = inr (inr (inl refl))
@@ -31,12 +31,12 @@ map_each P f (x ∷ xs) h = (h.0, map_each P f xs h.1)
 
 module _ (P : Vector → Type 0) (s : Vector) (a : AcceptedPick) where
   abbrev those : List Way
-  those = only (belongs (levelsOf a.normal)) allWays
+  those = only (belongs (levels_of a.normal)) all_ways
 
-  pub footing-by : ((w : Way) → T (belongs (levelsOf a.normal) w) → P (way_of s a.triangle w)) → Each P (footing s a)
+  pub footing-by : ((w : Way) → T (belongs (levels_of a.normal) w) → P (way_of s a.triangle w)) → Each P (footing s a)
   unfolding footing
-  footing-by h = each_map P (way_of s a.triangle) those (each_of (λ w. T (belongs (levelsOf a.normal) w)) (λ w. P (way_of s a.triangle w)) those h (only-holds (belongs (levelsOf a.normal)) allWays))
+  footing-by h = each_map P (way_of s a.triangle) those (each_of (λ w. T (belongs (levels_of a.normal) w)) (λ w. P (way_of s a.triangle w)) those h (only-holds (belongs (levels_of a.normal)) all_ways))
 
-  pub footing-of : Each P (footing s a) → (w : Way) → T (belongs (levelsOf a.normal) w) → P (way_of s a.triangle w)
+  pub footing-of : Each P (footing s a) → (w : Way) → T (belongs (levels_of a.normal) w) → P (way_of s a.triangle w)
   unfolding footing
-  footing-of h w t = each_member (λ w. P (way_of s a.triangle w)) w those (map_each P (way_of s a.triangle) those h) (in-only (belongs (levelsOf a.normal)) w allWays (way_in w) t)
+  footing-of h w t = each_member (λ w. P (way_of s a.triangle w)) w those (map_each P (way_of s a.triangle) those h) (in-only (belongs (levels_of a.normal)) w all_ways (way_in w) t)

@@ -14,8 +14,8 @@ use Rattle.rules.specs.declared.Triangle.{Triangle}
 use Rattle.rules.specs.declared.Pair.{Pair}
 use Rattle.rules.specs.declared.Pair.TheVariants.{P01, P02, P10, P12, P20, P21}
 use Rattle.rules.specs.Vectors.{vector, ◌⊕◌, scale, dot, cross, det, lay, size}
-use Rattle.rules.specs.Walk.{Axis, axis0, axis1, axis2, unit, vectorOf, from, to, first, second, way, level, allLevel, takesPart, levelled, normal, Probe, Found, found}
-use Rattle.rules.specs.Lean.{levelsOf}
+use Rattle.rules.specs.Walk.{Axis, axis0, axis1, axis2, unit, vector_of, from, to, first, second, way, level, all_level, takes_part, levelled, normal, Probe, Found, found}
+use Rattle.rules.specs.Lean.{levels_of}
 use Rattle.rules.specs.Firm.{sideways, along}
 use Rattle.laws.specs.Tests.{compared}
 use Rattle.laws.specs.Parts.{NonNegative, part, part-sum, part-scale, vector-eq, of2, dot-difference, scale-dot, scale_one}
@@ -78,7 +78,7 @@ level-part axis2 m x y z p q r = simp (part-sum, part-scale) (rw (p, q, r) (byri
 -- ---- vectors with no negative part
 both-up : {a c : Vector} → NonNegative a → NonNegative c → pos 0 ≤ℤ dot a c
 unfolding dot
-both-up h k = h.ofX by k.ofX and h.ofY by k.ofY and h.of_z by k.of_z
+both-up h k = h.of_x by k.of_x and h.of_y by k.of_y and h.of_z by k.of_z
 
 -- one that is not zero has a sum of at least 1
 some_up : (a x : Vector) → NonNegative a → dot a x ≡ pos 1 → pos 1 ≤ℤ dot a ones
@@ -93,9 +93,9 @@ some_up a x h e = go (compared (a.x *ℤ pos 1 +ℤ a.y *ℤ pos 1 +ℤ a.z *ℤ
     go (inl k) =
         let u = atom a.x in let v = atom a.y in let w = atom a.z in
         let f = fact (search linear) k in
-        let a0 : a.x ≡ pos 0 = omega (arith, parts, h.ofX, h.ofY, h.of_z) in
-        let b0 : a.y ≡ pos 0 = omega (arith, parts, h.ofX, h.ofY, h.of_z) in
-        let c0 : a.z ≡ pos 0 = omega (arith, parts, h.ofX, h.ofY, h.of_z) in
+        let a0 : a.x ≡ pos 0 = omega (arith, parts, h.of_x, h.of_y, h.of_z) in
+        let b0 : a.y ≡ pos 0 = omega (arith, parts, h.of_x, h.of_y, h.of_z) in
+        let c0 : a.z ≡ pos 0 = omega (arith, parts, h.of_x, h.of_y, h.of_z) in
         absurd (omega (arith, parts, sym (none x.x x.y x.z) ∙ (rw (a0, b0, c0) at e)))
 
 module _ (v : Levels) (m : Triangle) (tame : Tame m) (flat : Flat v m) where
@@ -113,31 +113,31 @@ module _ (v : Levels) (m : Triangle) (tame : Tame m) (flat : Flat v m) where
   normal-by x = by-heights n x ∙ rw (levelled-dot v m flat tame.unimodular axis0, levelled-dot v m flat tame.unimodular axis1, levelled-dot v m flat tame.unimodular axis2) refl
 
   -- along a level axis the cross product is the unit vector
-  level-cross : (k : Axis) → T (level v k) → (x : Vector) → dot (vectorOf b k) x ≡ part k x
+  level-cross : (k : Axis) → T (level v k) → (x : Vector) → dot (vector_of b k) x ≡ part k x
   level-cross k t x =
       same k ∙ sym (level-part k m _ _ _ (flat k t axis0).part-is (flat k t axis1).part-is (flat k t axis2).part-is) ∙ sym (ap (part k) (sym (scale_one x) ∙ (rw tame.unimodular at (expand m x))))
     where
-      same : (k : Axis) → dot (vectorOf b k) x ≡ part k (vector (dot b.m0 x) (dot b.m1 x) (dot b.m2 x))
+      same : (k : Axis) → dot (vector_of b k) x ≡ part k (vector (dot b.m0 x) (dot b.m1 x) (dot b.m2 x))
       same axis0 = refl
       same axis1 = refl
       same axis2 = refl
 
-  own-cross : (k : Axis) → dot (vectorOf b k) (vectorOf m k) ≡ pos 1
+  own-cross : (k : Axis) → dot (vector_of b k) (vector_of m k) ≡ pos 1
   unfolding det dot cross
   own-cross axis0 = byring (of9 m) (search sides depth 40 fits 5000) tt ∙ tame.unimodular
   own-cross axis1 = byring (of9 m) (search sides depth 40 fits 5000) tt ∙ tame.unimodular
   own-cross axis2 = byring (of9 m) (search sides depth 40 fits 5000) tt ∙ tame.unimodular
 
-  cross-up : (k : Axis) → NonNegative (vectorOf b k)
+  cross-up : (k : Axis) → NonNegative (vector_of b k)
   cross-up k = all_of tame.upward k
 
   -- with the sum of the unit vectors
   weight : Axis → ℤ
-  weight k = dot (vectorOf b k) ones
+  weight k = dot (vector_of b k) ones
 
   weight-up : (k : Axis) → pos 1 ≤ℤ weight k
   unfolding weight
-  weight-up k = some_up (vectorOf b k) (vectorOf m k) (cross-up k) (own-cross k)
+  weight-up k = some_up (vector_of b k) (vector_of m k) (cross-up k) (own-cross k)
 
   own-one : (k : Axis) → part k ones ≡ pos 1
   own-one axis0 = refl
@@ -153,27 +153,27 @@ module _ (v : Levels) (m : Triangle) (tame : Tame m) (flat : Flat v m) where
   unfolding dot
   swap a c = byring (of2 a c) (search sides depth 40 fits 5000) tt
 
-  level-normal : (k : Axis) → level v k ≡ true → dot (vectorOf b k) n ≡ pos 0
+  level-normal : (k : Axis) → level v k ≡ true → dot (vector_of b k) n ≡ pos 0
   level-normal k e = level-cross k (rw e tt) n ∙ part-levelled v (normal m) k ∙ rw e refl
 
   flag_up : (b : Bool) → pos 0 ≤ℤ product b
   flag_up true = omega (arith, parts)
   flag_up false = omega (arith, parts)
 
-  term_up : (j k : Axis) → pos 0 ≤ℤ (product (level v j) *ℤ dot (vectorOf b j) (vectorOf b k))
+  term_up : (j k : Axis) → pos 0 ≤ℤ (product (level v j) *ℤ dot (vector_of b j) (vector_of b k))
   term_up j k = flag_up (level v j) by both-up (cross-up j) (cross-up k)
 
-  own-term : (k : Axis) → level v k ≡ false → pos 1 ≤ℤ (product (level v k) *ℤ dot (vectorOf b k) (vectorOf b k))
-  own-term k e = rw e (let z = atom (dot (vectorOf b k) (vectorOf b k)) in goal (search linear) (omega (arith, parts, long (vectorOf b k) (vectorOf m k) (own-cross k))))
+  own-term : (k : Axis) → level v k ≡ false → pos 1 ≤ℤ (product (level v k) *ℤ dot (vector_of b k) (vector_of b k))
+  own-term k e = rw e (let z = atom (dot (vector_of b k) (vector_of b k)) in goal (search linear) (omega (arith, parts, long (vector_of b k) (vector_of m k) (own-cross k))))
 
-  normal-up : (k : Axis) → level v k ≡ false → pos 1 ≤ℤ dot (vectorOf b k) n
-  normal-up k e = rw (swap (vectorOf b k) n, normal-by (vectorOf b k)) (sum-up (λ j. product (level v j) *ℤ dot (vectorOf b j) (vectorOf b k)) (λ j. term_up j k) k (own-term k e))
+  normal-up : (k : Axis) → level v k ≡ false → pos 1 ≤ℤ dot (vector_of b k) n
+  normal-up k e = rw (swap (vector_of b k) n, normal-by (vector_of b k)) (sum-up (λ j. product (level v j) *ℤ dot (vector_of b j) (vector_of b k)) (λ j. term_up j k) k (own-term k e))
 
   -- ---- the heights of N, each way F times within e
   module _ (N : Vector) (F e : ℤ) (two : pos 2 ≤ℤ F) (up : pos 0 ≤ℤ e) (low : e <ℤ dot N ones) (sizes : dot n ones ≤ℤ F)
-      (side : (j k : Axis) → level v j ≡ false → level v k ≡ false → (F *ℤ (dot N (vectorOf m j) -ℤ dot N (vectorOf m k))) ≤ℤ e) (flatly : (j : Axis) → level v j ≡ true → (F *ℤ dot N (vectorOf m j)) ≤ℤ e) where
+      (side : (j k : Axis) → level v j ≡ false → level v k ≡ false → (F *ℤ (dot N (vector_of m j) -ℤ dot N (vector_of m k))) ≤ℤ e) (flatly : (j : Axis) → level v j ≡ true → (F *ℤ dot N (vector_of m j)) ≤ℤ e) where
     abbrev height : Axis → ℤ
-    height k = dot N (vectorOf m k)
+    height k = dot N (vector_of m k)
 
     long-way : pos 1 ≤ℤ F
     long-way = omega (arith, parts)
@@ -222,10 +222,10 @@ module _ (v : Levels) (m : Triangle) (tame : Tame m) (flat : Flat v m) where
     heights-up axis1 r = corner-up axis1 axis0 axis2 r (weighed ∙ swapped (λ k. product (level v k) *ℤ weight k)) (raised ∙ swapped (λ k. height k *ℤ weight k))
     heights-up axis2 r = corner-up axis2 axis0 axis1 r (weighed ∙ turned (λ k. product (level v k) *ℤ weight k)) (raised ∙ turned (λ k. height k *ℤ weight k))
 
-    pub heights-upward : T (not (allLevel v)) → pos 0 <ℤ dot N (levelled v (normal m))
+    pub heights-upward : T (not (all_level v)) → pos 0 <ℤ dot N (levelled v (normal m))
     heights-upward t =
         subst (λ z. pos 0 <ℤ z) (sym (by-heights N n))
-        (sum-high v t (λ k. height k *ℤ dot (vectorOf b k) n) (λ k. part-high (level v k) (height k) (dot (vectorOf b k) n) (heights-up k) (level-normal k) (normal-up k)))
+        (sum-high v t (λ k. height k *ℤ dot (vector_of b k) n) (λ k. part-high (level v k) (height k) (dot (vector_of b k) n) (heights-up k) (level-normal k) (normal-up k)))
 
 -- ---- of what a walk found, laid in
 lay-ones : (s : Vector) → lay s ones ≡ s
@@ -237,7 +237,7 @@ unfolding dot
 dot-ones a = byring (a.x ∷ a.y ∷ a.z ∷ []) (search sides depth 40 fits 5000) tt
 
 module _ {c : Probe} {R : ℕ} {v : Levels} {f : Found} (h : WalkFound c R v f) (g : Signs c.signs) (ν : Vector) (F : ℕ) (e : ℤ) (up : pos 0 ≤ℤ e) (low : e <ℤ dot ν c.signs)
-    (held : WaysWithin (scale (pos F) ν) e c.signs (levelsOf f.normal) f.triangle) where
+    (held : WaysWithin (scale (pos F) ν) e c.signs (levels_of f.normal) f.triangle) where
   abbrev s : Vector
   s = c.signs
 
@@ -248,22 +248,22 @@ module _ {c : Probe} {R : ℕ} {v : Levels} {f : Found} (h : WalkFound c R v f) 
   N = lay c.signs ν
 
   -- ν's product with a vector of the answer is its height in the frame
-  laid-height : (k : Axis) → dot ν (vectorOf f.triangle k) ≡ dot N (vectorOf m k)
-  laid-height k = ap (dot ν) (found-vector h g k) ∙ sym (lay-dot s ν (vectorOf m k))
+  laid-height : (k : Axis) → dot ν (vector_of f.triangle k) ≡ dot N (vector_of m k)
+  laid-height k = ap (dot ν) (found-vector h g k) ∙ sym (lay-dot s ν (vector_of m k))
 
   held-here : WaysWithin (scale (pos F) ν) e s v f.triangle
   held-here = subst (λ (v : Levels). WaysWithin (scale (pos F) ν) e s v f.triangle) (sym (found-levels h g)) held
 
   pair_held : (x : Pair) → level v (from x) ≡ false → level v (to x) ≡ false → (pos F *ℤ (dot N (second m x) -ℤ dot N (first m x))) ≤ℤ e
-  unfolding takesPart
+  unfolding takes_part
   pair_held x p q =
       subst (λ z. z ≤ℤ e) (scale-dot ν (way f.triangle x) (pos F) ∙ ap (λ z. pos F *ℤ z) (dot-difference ν (second f.triangle x) (first f.triangle x) ∙ ap₂ ◌-ℤ◌ (laid-height (to x)) (laid-height (from x))))
       (held-here (sideways x) (yes_and (not (level v (from x))) (not (level v (to x))) (rw p tt) (rw q tt)))
 
-  same-corner : (k : Axis) → (pos F *ℤ (dot N (vectorOf m k) -ℤ dot N (vectorOf m k))) ≤ℤ e
-  same-corner k = subst (λ z. z ≤ℤ e) (byring (pos F ∷ dot N (vectorOf m k) ∷ []) (search sides depth 40 fits 5000) tt) up
+  same-corner : (k : Axis) → (pos F *ℤ (dot N (vector_of m k) -ℤ dot N (vector_of m k))) ≤ℤ e
+  same-corner k = subst (λ z. z ≤ℤ e) (byring (pos F ∷ dot N (vector_of m k) ∷ []) (search sides depth 40 fits 5000) tt) up
 
-  side : (j k : Axis) → level v j ≡ false → level v k ≡ false → (pos F *ℤ (dot N (vectorOf m j) -ℤ dot N (vectorOf m k))) ≤ℤ e
+  side : (j k : Axis) → level v j ≡ false → level v k ≡ false → (pos F *ℤ (dot N (vector_of m j) -ℤ dot N (vector_of m k))) ≤ℤ e
   side axis0 axis0 p q = same-corner axis0
   side axis0 axis1 p q = pair_held P10 q p
   side axis0 axis2 p q = pair_held P20 q p
@@ -274,7 +274,7 @@ module _ {c : Probe} {R : ℕ} {v : Levels} {f : Found} (h : WalkFound c R v f) 
   side axis2 axis1 p q = pair_held P12 q p
   side axis2 axis2 p q = same-corner axis2
 
-  flatly : (j : Axis) → level v j ≡ true → (pos F *ℤ dot N (vectorOf m j)) ≤ℤ e
+  flatly : (j : Axis) → level v j ≡ true → (pos F *ℤ dot N (vector_of m j)) ≤ℤ e
   flatly j l =
       let t : T (level v j) = rw l tt in
       let stays = found-stays h g j (subst (λ (v : Levels). T (level v j)) (found-levels h g) t) in
@@ -287,7 +287,7 @@ module _ {c : Probe} {R : ℕ} {v : Levels} {f : Found} (h : WalkFound c R v f) 
   sizes : size f.normal ≤ F → dot (levelled v (normal m)) ones ≤ℤ pos F
   sizes k = rw (← frame-normal, dot-ones (lay s f.normal), sum-size (lay s f.normal) (found-signs h g), lay-size s f.normal g) (omega (arith, parts))
 
-  pub found-upward : T (not (allLevel v)) → 2 ≤ F → size f.normal ≤ F → pos 0 <ℤ dot ν f.normal
+  pub found-upward : T (not (all_level v)) → 2 ≤ F → size f.normal ≤ F → pos 0 <ℤ dot ν f.normal
   found-upward some two few =
       subst (λ z. pos 0 <ℤ z) (ap (dot N) (sym frame-normal) ∙ lay-dot s ν (lay s f.normal) ∙ ap (dot ν) (lay-lay s f.normal g))
       (heights-upward v m h.end.tame h.end.flat N (pos F) e (omega (arith, parts)) up (rw (lay-dot s ν ones, lay-ones s) low) (sizes few) side flatly some)

@@ -5,11 +5,11 @@ use Rattle.rules.specs.declared.Vector.{Vector}
 use Rattle.rules.specs.declared.Accepted.{Accepted as AcceptedPick}
 use Rattle.rules.specs.declared.Pick.TheVariants.{Accepted}
 use Rattle.rules.specs.Vectors.{vector, ◌⊕◌, ◌⊖◌, minus, scale, dot, cross, det, sphere, lay, size}
-use Rattle.rules.specs.Solids.{between, permittedWedge, filledWedge, inBox, look}
+use Rattle.rules.specs.Solids.{between, permitted_wedge, filled_wedge, in_box, look}
 use Rattle.rules.specs.Asked.{after, ◌>>=◌}
-use Rattle.rules.specs.Walk.{ensure, sign, signs, seen, asked, powersFrom, powers, normal, allLevel, keep, only, remaining, takesPart, levelled, determinant, inside, anyInside, firstFree, choice, lookAt, fallsAt, facing, isLevel, axes, start, falling, round as roundOf, walk, rounds, found, end}
-use Rattle.rules.specs.Pick.{isInside, placing, judging, check, pick, answer, pick_of}
-use Rattle.rules.specs.Lean.{squared, longest, spread, last, lastPower, bound_at}
+use Rattle.rules.specs.Walk.{ensure, sign, signs, seen, asked, powers_from, powers, normal, all_level, keep, only, remaining, takes_part, levelled, determinant, inside, any_inside, first_free, choice, look_at, falls_at, facing, is_level, axes, start, falling, round as round_of, walk, rounds, found, end}
+use Rattle.rules.specs.Pick.{is_inside, placing, judging, check, pick, answer, pick_of}
+use Rattle.rules.specs.Lean.{squared, longest, spread, last, last_power, bound_at}
 use Rattle.slope.specs.Demands.{pick_at, at, line}
 use Rattle.planes.specs.Lean.{last_of, AcceptsLine, LeanNotEmpty}
 use Rattle.planes.specs.LeanProved.{wedge-plane}
@@ -17,17 +17,17 @@ use Rattle.planes.specs.LeanProved.{wedge-plane}
 accepts-line : {a b c h reach : ℤ} {n : Vector} {tenths : ℕ} (k : AcceptedPick) → pick_at (line a b c h (at 100) (pos 0) reach) ≡ Accepted k → k.normal ≡ n
     → T (leb (tenths * ((bound_at (last_of (line a b c h (at 100) (pos 0) reach)) k).part * (squared (vector a b c) * squared n))) (10 * ((bound_at (last_of (line a b c h (at 100) (pos 0) reach)) k).whole * squared (cross (vector a b c) n))))
     → AcceptsLine a b c h reach n tenths
-accepts-line k is same few = record { onPlane = wedge-plane _ _ _ _; answer = k; is = is; isNormal = same; reached = leb→le _ _ few }
+accepts-line k is same few = record { on_plane = wedge-plane _ _ _ _; answer = k; is = is; is_normal = same; reached = leb→le _ _ few }
 
 pub lean-not-empty : LeanNotEmpty
-unfolding accepts-line squared longest spread last lastPower bound_at ◌⊕◌ ◌⊖◌ minus scale dot cross det sphere lay size between permittedWedge filledWedge inBox look after ◌>>=◌ ensure sign signs seen asked powersFrom powers normal allLevel keep only remaining takesPart levelled determinant inside anyInside firstFree choice lookAt fallsAt facing isLevel axes start falling roundOf walk rounds found end isInside placing judging check pick answer pick_of
+unfolding accepts-line squared longest spread last last_power bound_at ◌⊕◌ ◌⊖◌ minus scale dot cross det sphere lay size between permitted_wedge filled_wedge in_box look after ◌>>=◌ ensure sign signs seen asked powers_from powers normal all_level keep only remaining takes_part levelled determinant inside any_inside first_free choice look_at falls_at facing is_level axes start falling round_of walk rounds found end is_inside placing judging check pick answer pick_of
 lean-not-empty = record {
   beyond = accepts-line _ refl refl tt;
-  isBeyond = omega arith;
+  is_beyond = omega arith;
   against = accepts-line _ refl refl tt;
   sharp = accepts-line _ refl refl tt;
-  sharpWithOneLevel = accepts-line _ refl refl tt;
-  sharpWithTwoLevel = accepts-line _ refl refl tt;
-  ownSlope = accepts-line _ refl refl tt;
-  noLean = refl;
+  sharp_with_one_level = accepts-line _ refl refl tt;
+  sharp_with_two_level = accepts-line _ refl refl tt;
+  own_slope = accepts-line _ refl refl tt;
+  no_lean = refl;
 }

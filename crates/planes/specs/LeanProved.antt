@@ -16,9 +16,9 @@ use Rattle.rules.specs.declared.Accepted.{Accepted as AcceptedPick}
 use Rattle.rules.specs.declared.Pick.TheVariants.{Accepted}
 use Rattle.rules.specs.declared.Lean.TheVariants.{Known}
 use Rattle.rules.specs.Vectors.{◌⊕◌, minus, scale, dot, lay}
-use Rattle.rules.specs.Solids.{between, filledWedge, look}
+use Rattle.rules.specs.Solids.{between, filled_wedge, look}
 use Rattle.rules.specs.Walk.{unit}
-use Rattle.rules.specs.Lean.{levelsOf, lastPower, bound_at, measurable, leanOf}
+use Rattle.rules.specs.Lean.{levels_of, last_power, bound_at, measurable, lean_of}
 use Rattle.rules.specs.Firm.{Way, sideways, along, against, belongs, way_of, footing}
 use Rattle.laws.specs.Tests.{Each, is_true}
 use Rattle.laws.specs.Parts.{part, part-minus, vector-by-parts, dot-sum, dot-scale, dot-minus, scale-dot}
@@ -27,20 +27,20 @@ use Rattle.laws.specs.Powers.{last-power}
 use Rattle.laws.specs.Boxes.{look-as}
 use Rattle.laws.specs.Answers.{accepted-tells}
 use Rattle.laws.specs.Theorems.{level-both-ways, sides-both-ways}
-use Rattle.slope.specs.Demands.{Inputs, signsOf, apexOf, pick_at, ofWedge}
+use Rattle.slope.specs.Demands.{Inputs, signs_of, apex_of, pick_at, of_wedge}
 use Rattle.slope.specs.RowProved.{row_of}
 use Rattle.planes.specs.Footings.{footing-by}
 use Rattle.planes.specs.Turn.{WaysWithin}
 use Rattle.planes.specs.Measured.{accepted-faced, accepted-face, accepted-measurable}
 use Rattle.planes.specs.Upward.{leans-upward}
 use Rattle.planes.specs.Below.{close_at, lean-at, below_at}
-use Rattle.planes.specs.Lean.{OnPlane, last_of, height, Leans, slopeOf, KnownLean}
+use Rattle.planes.specs.Lean.{OnPlane, last_of, height, Leans, slope_of, KnownLean}
 use Rattle.planes.specs.Orders.{rest}
 
 -- ---- of every accepted pick: what is known is the bound at the last power
-known : (reach : ℤ) (a : AcceptedPick) → T (between (pos 1) reach (pos 256)) → T (measurable a) → leanOf (Accepted a) reach ≡ Known (bound_at (lastPower (nat_abs reach)) a)
-unfolding leanOf
-known reach a h k = rw (is_true (between (pos 1) reach (pos 256) && measurable a) (yes_and (between (pos 1) reach (pos 256)) (measurable a) h k), leanOf)
+known : (reach : ℤ) (a : AcceptedPick) → T (between (pos 1) reach (pos 256)) → T (measurable a) → lean_of (Accepted a) reach ≡ Known (bound_at (last_power (nat_abs reach)) a)
+unfolding lean_of
+known reach a h k = rw (is_true (between (pos 1) reach (pos 256) && measurable a) (yes_and (between (pos 1) reach (pos 256)) (measurable a) h k), lean_of)
 
 minus_minus : (a : Vector) → minus (minus a) ≡ a
 minus_minus a = vector-by-parts (λ k. simp part-minus (byring (part k a ∷ []) (search sides depth 40 fits 5000) tt))
@@ -53,16 +53,16 @@ module _ (ν : Vector) (t : ℤ) (i : Inputs) (o : OnPlane ν t i) (a : Accepted
   look_of = look i.solid i.bytes
 
   abbrev s : Vector
-  s = signsOf i
+  s = signs_of i
 
   abbrev q : Vector
-  q = apexOf i
+  q = apex_of i
 
   abbrev L : ℕ
   L = last_of i
 
   abbrev v : Levels
-  v = levelsOf a.normal
+  v = levels_of a.normal
 
   abbrev m : Triangle
   m = a.triangle
@@ -71,19 +71,19 @@ module _ (ν : Vector) (t : ℤ) (i : Inputs) (o : OnPlane ν t i) (a : Accepted
   e = height ν t i
 
   below : (u : Vector) → look_of u ≡ Filled → dot ν u <ℤ t
-  below u k = let f = look-as i.solid i.bytes u true k in lt_z_yes (rw (sym (o.filledBelow u f.0) ∙ f.1) tt)
+  below u k = let f = look-as i.solid i.bytes u true k in lt_z_yes (rw (sym (o.filled_below u f.0) ∙ f.1) tt)
 
   above : (u : Vector) → look_of u ≡ Empty → t ≤ℤ dot ν u
-  above u k = let f = look-as i.solid i.bytes u false k in lt_z_no (rw (sym (o.filledBelow u f.0) ∙ f.1) tt)
+  above u k = let f = look-as i.solid i.bytes u false k in lt_z_no (rw (sym (o.filled_below u f.0) ∙ f.1) tt)
 
   not-below : pos 0 ≤ℤ e
-  not-below = rest (above q (accepted-faced _ _ _ _ _ a is).apexEmpty)
+  not-below = rest (above q (accepted-faced _ _ _ _ _ a is).apex_empty)
 
   low : e <ℤ dot ν s
   low =
       let x = atom (dot ν i.start) in let y = atom t in let z = atom (dot ν s) in let w = atom (dot ν q) in
       let f = fact (search linear) (dot-sum ν i.start s) in
-      goal (search linear) (omega (arith, parts, below i.start (accepted-faced _ _ _ _ _ a is).startFilled))
+      goal (search linear) (omega (arith, parts, below i.start (accepted-faced _ _ _ _ _ a is).start_filled))
 
   -- the voxel at L times minus u from the apex is empty
   opposite-empty : (u : Vector) → look_of (q ⊕ scale (pos L) (minus u)) ≡ Empty → (pos L *ℤ dot ν u) ≤ℤ e
@@ -109,26 +109,26 @@ module _ (ν : Vector) (t : ℤ) (i : Inputs) (o : OnPlane ν t i) (a : Accepted
   leans =
       let face = accepted-face _ _ _ _ _ a is in let faced = accepted-faced _ _ _ _ _ a is in let g = signs-are (nat_abs i.frame) in
       record {
-        isKnown = known i.reach a faced.passed.permittedReach (accepted-measurable _ _ _ _ _ a is);
+        is_known = known i.reach a faced.passed.permitted_reach (accepted-measurable _ _ _ _ _ a is);
         below = below_at face g ν L e not-below low within;
-        upward = leans-upward (accepted-tells _ _ _ _ _ a is).accepting g ν t below (above q faced.apexEmpty);
-        notBelow = not-below;
+        upward = leans-upward (accepted-tells _ _ _ _ _ a is).accepting g ν t below (above q faced.apex_empty);
+        not_below = not-below;
         low = low;
         flat = flat-here;
         close = close_at face g ν L e not-below low within;
         lean = lean-at face g ν L e not-below low within;
       }
 
-pub wedge-plane : (wedge : Wedge) (p : Vector) (frame reach : ℤ) → OnPlane (slopeOf wedge) wedge.h (ofWedge wedge p frame reach)
-unfolding filledWedge
-wedge-plane wedge p frame reach = record { filledBelow = λ v _. refl }
+pub wedge-plane : (wedge : Wedge) (p : Vector) (frame reach : ℤ) → OnPlane (slope_of wedge) wedge.h (of_wedge wedge p frame reach)
+unfolding filled_wedge
+wedge-plane wedge p frame reach = record { filled_below = λ v _. refl }
 
 pub known-lean : KnownLean
 known-lean = record {
-  onePick = leans;
-  oneRow = λ ν t i o a h. leans ν t i o a (sym (row_of h));
-  wedgePlane = wedge-plane;
-  wedgePick = λ wedge p frame reach a h. leans _ _ _ (wedge-plane wedge p frame reach) a (sym h.is);
-  stackPick = λ ν t stack bytes p frame reach o a h. leans ν t _ o a (sym h.is);
-  told = λ ν t i o a h r k. let l = leans ν t i o a h in (bound_at (last_of i) a, k.is ∙ l.isKnown, l.below);
+  one_pick = leans;
+  one_row = λ ν t i o a h. leans ν t i o a (sym (row_of h));
+  wedge_plane = wedge-plane;
+  wedge_pick = λ wedge p frame reach a h. leans _ _ _ (wedge-plane wedge p frame reach) a (sym h.is);
+  stack_pick = λ ν t stack bytes p frame reach o a h. leans ν t _ o a (sym h.is);
+  told = λ ν t i o a h r k. let l = leans ν t i o a h in (bound_at (last_of i) a, k.is ∙ l.is_known, l.below);
 }

@@ -22,30 +22,30 @@ use Rattle.rules.specs.declared.Pick.TheVariants.{Accepted}
 use Rattle.rules.specs.Vectors.{lay, size}
 use Rattle.rules.specs.Solids.{permitted, look}
 use Rattle.rules.specs.Asked.{Asked, answered, refused}
-use Rattle.rules.specs.Walk.{Stop, stop, asked, signs, units, vectorOf, pairs, step, normal, allLevel, only, remaining, takesPart, levelled, Probe, Found, found, round, walk, rounds}
-use Rattle.rules.specs.Pick.{isInside, probe, check, pick, pick_of}
-use Rattle.rules.specs.TwoCalls.{walkOn, walk_of}
-use Rattle.rules.specs.Lean.{levelsOf, within, measurable}
+use Rattle.rules.specs.Walk.{Stop, stop, asked, signs, units, vector_of, pairs, step, normal, all_level, only, remaining, takes_part, levelled, Probe, Found, found, round, walk, rounds}
+use Rattle.rules.specs.Pick.{is_inside, probe, check, pick, pick_of}
+use Rattle.rules.specs.TwoCalls.{walk_on, walk_of}
+use Rattle.rules.specs.Lean.{levels_of, within, measurable}
 use Rattle.laws.specs.Triples.{All, all-by, all_of}
 use Rattle.laws.specs.Bounds.{Bounded, bounded-is}
-use Rattle.laws.specs.Boxes.{units-within, probeOn, chosen-within}
+use Rattle.laws.specs.Boxes.{units-within, probe_on, chosen-within}
 use Rattle.laws.specs.Frames.{Signs, signs-are, sign-size, lay-size}
 use Rattle.laws.specs.Says.{says-answered}
-use Rattle.laws.specs.Answered.{both-answered, asked-answered, voxelsOf}
+use Rattle.laws.specs.Answered.{both-answered, asked-answered, voxels_of}
 use Rattle.laws.specs.PickRule.{Faced}
 use Rattle.laws.specs.PickParts.{WalkPart, walk-part, pick-parts}
 use Rattle.laws.specs.Rounds.{WalkFound}
 use Rattle.laws.specs.Picks.{Accepting}
 use Rattle.laws.specs.Checks.{check-says}
-use Rattle.laws.specs.Answers.{laid_of, foundOf, accepted-answer, accepted-tells}
+use Rattle.laws.specs.Answers.{laid_of, found_of, accepted-answer, accepted-tells}
 use Rattle.laws.specs.Handed.{walk-accepted, thirteen-when, accepted-walk}
 use Rattle.planes.specs.Turn.{Face}
 use Rattle.planes.specs.Faces.{found-face}
 
 -- ---- the end of a walk
-module _ (solid : Solid) (bytes : List ℕ) (q s : Vector) (R : ℕ) (ok : T (permitted solid bytes)) (inside : T (isInside (look solid bytes q))) (signed : Signs s) where
+module _ (solid : Solid) (bytes : List ℕ) (q s : Vector) (R : ℕ) (ok : T (permitted solid bytes)) (inside : T (is_inside (look solid bytes q))) (signed : Signs s) where
   abbrev c : Probe
-  c = probeOn solid bytes q s R
+  c = probe_on solid bytes q s R
 
   abbrev Fit : Triangle → Type 0
   Fit = All (Bounded 1023)
@@ -71,16 +71,16 @@ module _ (solid : Solid) (bytes : List ℕ) (q s : Vector) (R : ℕ) (ok : T (pe
   laid-within : (a : Vector) → Bounded 1023 a → Bounded 1023 (lay s a)
   unfolding lay
   laid-within a h = record {
-    in-x = record { size = rw (sign-size s.x a.x signed.ofX) h.in-x.size };
-    in-y = record { size = rw (sign-size s.y a.y signed.ofY) h.in-y.size };
+    in-x = record { size = rw (sign-size s.x a.x signed.of_x) h.in-x.size };
+    in-y = record { size = rw (sign-size s.y a.y signed.of_y) h.in-y.size };
     in-z = record { size = rw (sign-size s.z a.z signed.of_z) h.in-z.size };
   }
 
-  pub found_within : {v : Levels} {f : Found} {t : List Vector} → WalkPart (probeOn solid bytes q s R) R v f t → All (Bounded 1023) f.triangle
+  pub found_within : {v : Levels} {f : Found} {t : List Vector} → WalkPart (probe_on solid bytes q s R) R v f t → All (Bounded 1023) f.triangle
   unfolding rounds found
   found_within {v} {f} h =
-      let fits = end-within (only (takesPart v) pairs) (R - length (remaining v)) 0 units h.walked units-within in
-      all-by (λ k. bounded-is (ap (λ (f : Found). vectorOf f.triangle k) h.is ∙ laid_of s h.end.0 k) (laid-within (vectorOf h.end.0 k) (all_of fits k)))
+      let fits = end-within (only (takes_part v) pairs) (R - length (remaining v)) 0 units h.walked units-within in
+      all-by (λ k. bounded-is (ap (λ (f : Found). vector_of f.triangle k) h.is ∙ laid_of s h.end.0 k) (laid-within (vector_of h.end.0 k) (all_of fits k)))
 
 -- ---- so it can be measured
 part-within : {n k : ℕ} {z : ℤ} → Within n z → n ≤ k → T (leb (nat_abs z) k)
@@ -102,7 +102,7 @@ found-size {c} {v = v} h g = rw (ap (λ (f : Found). f.normal) h.is, lay-size c.
 corner-within : {a : Vector} → Bounded 1023 a → T (within 2046 a)
 corner-within {a} h = vector-within 1023 2046 a h (omega arith)
 
-measured : (a : AcceptedPick) {s : Vector} → size a.normal ≤ 256 → All (Bounded 1023) a.triangle → Face s (levelsOf a.normal) a.normal a.triangle → T (measurable a)
+measured : (a : AcceptedPick) {s : Vector} → size a.normal ≤ 256 → All (Bounded 1023) a.triangle → Face s (levels_of a.normal) a.normal a.triangle → T (measurable a)
 unfolding measurable
 measured a few fits f =
     yes_and (within 256 a.normal) _ (normal-within a.normal few)
@@ -112,7 +112,7 @@ measured a few fits f =
 
 -- ---- of a pick
 module _ (solid : Solid) (bytes : List ℕ) (p : Vector) (frame reach : ℤ) (a : AcceptedPick) (is : pick_of solid bytes p frame reach ≡ Accepted a) where
-  picked : pick (permitted solid bytes) (look solid bytes) p frame reach ≡ answered (foundOf a) (voxelsOf (pick (permitted solid bytes) (look solid bytes) p frame reach))
+  picked : pick (permitted solid bytes) (look solid bytes) p frame reach ≡ answered (found_of a) (voxels_of (pick (permitted solid bytes) (look solid bytes) p frame reach))
   unfolding pick_of
   picked = accepted-answer (pick (permitted solid bytes) (look solid bytes) p frame reach) is
 
@@ -123,40 +123,40 @@ module _ (solid : Solid) (bytes : List ℕ) (p : Vector) (frame reach : ℤ) (a 
       let b = both-answered (check (permitted solid bytes) (look solid bytes) p frame reach) _ picked in
       (says-answered (check-says (permitted solid bytes) (look solid bytes) p frame reach) b.first).faced
 
-  abbrev accepting : Accepting (probe (look solid bytes) p frame reach) (nat_abs reach) (foundOf a)
+  abbrev accepting : Accepting (probe (look solid bytes) p frame reach) (nat_abs reach) (found_of a)
   accepting = (accepted-tells solid bytes p frame reach a is).accepting
 
-  pub accepted-face : Face (signs (nat_abs frame)) (levelsOf a.normal) a.normal a.triangle
+  pub accepted-face : Face (signs (nat_abs frame)) (levels_of a.normal) a.normal a.triangle
   accepted-face = found-face accepting.walked (signs-are (nat_abs frame)) accepting.asked.some
 
   pub accepted-measurable : T (measurable a)
   accepted-measurable =
       let g = signs-are (nat_abs frame) in let passed = accepted-faced.passed in
-      measured a (omega (arith, found-size accepting.walked g, (between-naturals 1 256 reach passed.permittedReach).1))
-      (found_within solid bytes _ _ (nat_abs reach) passed.permittedSolid passed.apexInside g (pick-parts _ _ p frame reach picked).walk)
+      measured a (omega (arith, found-size accepting.walked g, (between-naturals 1 256 reach passed.permitted_reach).1))
+      (found_within solid bytes _ _ (nat_abs reach) passed.permitted_solid passed.apex_inside g (pick-parts _ _ p frame reach picked).walk)
       accepted-face
 
 -- ---- of a walk from any ready start
 module _ (solid : Solid) (bytes : List ℕ) (d : ReadyStart) (frame reach : ℤ) (a : AcceptedPick) (is : walk_of solid bytes d frame reach ≡ Accepted a) where
-  walked : walkOn (look solid bytes) d frame reach ≡ answered (foundOf a) (voxelsOf (walkOn (look solid bytes) d frame reach))
+  walked : walk_on (look solid bytes) d frame reach ≡ answered (found_of a) (voxels_of (walk_on (look solid bytes) d frame reach))
   unfolding walk_of
-  walked = (accepted-walk d.looks _ (walkOn (look solid bytes) d frame reach) is).0
+  walked = (accepted-walk d.looks _ (walk_on (look solid bytes) d frame reach) is).0
 
   -- with all three axes level it would have been refused with 13
-  pub not-all-level : T (not (allLevel d.level))
-  not-all-level = go (allLevel d.level) refl
+  pub not-all-level : T (not (all_level d.level))
+  not-all-level = go (all_level d.level) refl
     where
-      go : (b : Bool) → allLevel d.level ≡ b → T (not b)
+      go : (b : Bool) → all_level d.level ≡ b → T (not b)
       go true e = let r = thirteen-when solid bytes d frame reach (walk-accepted solid bytes d frame reach a is).0 (inr (rw e tt)) in absurd (let z : ◌≡◌ {A = ℕ} 0 1 = cc in omega arith)
       go false e = tt
 
-  pub walk-face : Face (signs (nat_abs frame)) (levelsOf a.normal) a.normal a.triangle
+  pub walk-face : Face (signs (nat_abs frame)) (levels_of a.normal) a.normal a.triangle
   walk-face = let h = walk-accepted solid bytes d frame reach a is in found-face h.1 (signs-are (nat_abs frame)) not-all-level
 
   pub walk-measurable : T (measurable a)
-  unfolding walkOn
+  unfolding walk_on
   walk-measurable =
       let h = walk-accepted solid bytes d frame reach a is in let g = signs-are (nat_abs frame) in let passed = h.0 in
-      measured a (omega (arith, found-size h.1 g, (between-naturals 1 256 reach passed.permittedReach).1))
-      (found_within solid bytes d.apex _ (nat_abs reach) passed.permittedSolid passed.apexInside g (walk-part _ (nat_abs reach) d.level walked))
+      measured a (omega (arith, found-size h.1 g, (between-naturals 1 256 reach passed.permitted_reach).1))
+      (found_within solid bytes d.apex _ (nat_abs reach) passed.permitted_solid passed.apex_inside g (walk-part _ (nat_abs reach) d.level walked))
       walk-face

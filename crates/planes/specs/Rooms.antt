@@ -12,8 +12,8 @@ use Rattle.rules.specs.declared.Look.TheVariants.{Filled}
 use Rattle.rules.specs.declared.Levels.{Levels}
 use Rattle.rules.specs.declared.Triangle.{Triangle}
 use Rattle.rules.specs.Vectors.{◌⊕◌, scale, dot, lay}
-use Rattle.rules.specs.Solids.{inSide, box, inBox, filled, look}
-use Rattle.rules.specs.Walk.{Axis, unit, vectorOf, from, to, first, second, level}
+use Rattle.rules.specs.Solids.{in_side, box, in_box, filled, look}
+use Rattle.rules.specs.Walk.{Axis, unit, vector_of, from, to, first, second, level}
 use Rattle.rules.specs.Firm.{Way, sideways, along, against, belongs, way_of}
 use Rattle.laws.specs.Tests.{is_true, is-not, compared}
 use Rattle.laws.specs.Parts.{dot-difference, dot-minus}
@@ -26,7 +26,7 @@ use Rattle.planes.specs.Turn.{Face}
 
 -- ---- the ways lie in the plane
 module _ {s : Vector} {v : Levels} {n : Vector} {m : Triangle} (face : Face s v n m) where
-  not-level : (k : Axis) → T (not (level v k)) → dot n (vectorOf m k) ≡ pos 1
+  not-level : (k : Axis) → T (not (level v k)) → dot n (vector_of m k) ≡ pos 1
   not-level k t = face.products k ∙ ap product (is-not (level v k) t)
 
   is-level : (k : Axis) → T (level v k) → dot n (lay s (unit k)) ≡ pos 0
@@ -56,17 +56,17 @@ between-side side p u l L one up few i j = record {
       less_by (side -ℤ (p +ℤ l *ℤ u) -ℤ pos 1) k (byring (side ∷ p ∷ u ∷ l ∷ []) (search sides depth 40 fits 5000) tt);
 }
 
-in-side : {side x : ℤ} → InSide side x → T (inSide side x)
+in-side : {side x : ℤ} → InSide side x → T (in_side side x)
 in-side {side} {x} i = yes_and (le_z (pos 0) x) (lt_z x side) i.low.le i.below.lt
 
-pub between-box : (sides p u : Vector) (l L : ℤ) → pos 1 ≤ℤ L → pos 0 ≤ℤ l → l ≤ℤ L → T (inBox sides p) → T (inBox sides (p ⊕ scale L u)) → T (inBox sides (p ⊕ scale l u))
-unfolding inBox ◌⊕◌ scale
+pub between-box : (sides p u : Vector) (l L : ℤ) → pos 1 ≤ℤ L → pos 0 ≤ℤ l → l ≤ℤ L → T (in_box sides p) → T (in_box sides (p ⊕ scale L u)) → T (in_box sides (p ⊕ scale l u))
+unfolding in_box ◌⊕◌ scale
 between-box sides p u l L one up few i j =
     let a = in-sides sides p i in let b = in-sides sides (p ⊕ scale L u) j in
-    yes_and (inSide sides.x (p.x +ℤ l *ℤ u.x)) _ (in-side (between-side sides.x p.x u.x l L one up few a.of-x b.of-x))
-    (yes_and (inSide sides.y (p.y +ℤ l *ℤ u.y)) _ (in-side (between-side sides.y p.y u.y l L one up few a.of-y b.of-y)) (in-side (between-side sides.z p.z u.z l L one up few a.of-z b.of-z)))
+    yes_and (in_side sides.x (p.x +ℤ l *ℤ u.x)) _ (in-side (between-side sides.x p.x u.x l L one up few a.of-x b.of-x))
+    (yes_and (in_side sides.y (p.y +ℤ l *ℤ u.y)) _ (in-side (between-side sides.y p.y u.y l L one up few a.of-y b.of-y)) (in-side (between-side sides.z p.z u.z l L one up few a.of-z b.of-z)))
 
 -- ---- a voxel of the box that is filled
-pub look-filled : (solid : Solid) (bytes : List ℕ) (u : Vector) → T (inBox (box solid) u) → filled solid bytes u ≡ true → look solid bytes u ≡ Filled
+pub look-filled : (solid : Solid) (bytes : List ℕ) (u : Vector) → T (in_box (box solid) u) → filled solid bytes u ≡ true → look solid bytes u ≡ Filled
 unfolding look
-look-filled solid bytes u i f = rw (is_true (inBox (box solid) u) i, f) refl
+look-filled solid bytes u i f = rw (is_true (in_box (box solid) u) i, f) refl

@@ -13,14 +13,14 @@ use Rattle.rules.specs.declared.Triangle.{Triangle}
 use Rattle.rules.specs.declared.Pair.{Pair}
 use Rattle.rules.specs.declared.Pair.TheVariants.{P01, P02, P12}
 use Rattle.rules.specs.Vectors.{◌⊕◌, ◌⊖◌, scale, dot, cross, det, lay}
-use Rattle.rules.specs.Walk.{Axis, axis0, axis1, axis2, allAxes, unit, vectorOf, from, to, first, second, way, levels, level, noneLevel, allLevel, keep, only, takesPart}
-use Rattle.rules.specs.Lean.{squared, sides as sidePairs, longest, spread}
+use Rattle.rules.specs.Walk.{Axis, axis0, axis1, axis2, all_axes, unit, vector_of, from, to, first, second, way, levels, level, none_level, all_level, keep, only, takes_part}
+use Rattle.rules.specs.Lean.{squared, sides as side_pairs, longest, spread}
 use Rattle.rules.specs.Firm.{Way, sideways, along, against, belongs, way_of}
 use Rattle.laws.specs.Tests.{In, is-not, compared}
 use Rattle.laws.specs.Only.{in-only}
 use Rattle.laws.specs.Levels.{lowest}
 use Rattle.laws.specs.Parts.{part, of2, of3, dot-difference, dot-minus}
-use Rattle.laws.specs.Triples.{detOf, of9, combined, expand}
+use Rattle.laws.specs.Triples.{det_of, of9, combined, expand}
 use Rattle.laws.specs.Flat.{product}
 use Rattle.laws.specs.Generators.{Products}
 use Rattle.laws.specs.Tame.{turned}
@@ -51,25 +51,25 @@ longest-holds m x [] i = absurd i
 longest-holds m x (y ∷ ys) (inl e) = rw e (omega arith)
 longest-holds m x (y ∷ ys) (inr i) = omega (arith, longest-holds m x ys i)
 
-abbrev levelCount : Levels → ℕ
-levelCount v = length (only (level v) allAxes)
+abbrev level_count : Levels → ℕ
+level_count v = length (only (level v) all_axes)
 
-spread-side : (v : Levels) (m : Triangle) (x : Pair) → In x sidePairs → T (takesPart v x) → squared (way m x) + levelCount v ≤ spread v m
+spread-side : (v : Levels) (m : Triangle) (x : Pair) → In x side_pairs → T (takes_part v x) → squared (way m x) + level_count v ≤ spread v m
 unfolding spread
-spread-side v m x i t = omega (arith, longest-holds m x (only (takesPart v) sidePairs) (in-only (takesPart v) x sidePairs i t))
+spread-side v m x i t = omega (arith, longest-holds m x (only (takes_part v) side_pairs) (in-only (takes_part v) x side_pairs i t))
 
-spread-levels : (v : Levels) (m : Triangle) → levelCount v ≤ spread v m
+spread-levels : (v : Levels) (m : Triangle) → level_count v ≤ spread v m
 unfolding spread
 spread-levels v m = omega arith
 
 -- ---- what the triangle of an accepted answer is, laid in, with its level axes v and its normal n
 pub record Face (s : Vector) (v : Levels) (n : Vector) (m : Triangle) : Type 0 where
-  pub unimodular : detOf m *ℤ detOf m ≡ pos 1
+  pub unimodular : det_of m *ℤ det_of m ≡ pos 1
   pub products : Products v n m
-  pub stays : (k : Axis) → T (level v k) → vectorOf m k ≡ lay s (unit k)
+  pub stays : (k : Axis) → T (level v k) → vector_of m k ≡ lay s (unit k)
   -- a level vector has length 1 and is at right angles to the others
-  pub straight : (k : Axis) → T (level v k) → (j : Axis) → dot (vectorOf m j) (vectorOf m k) ≡ part k (unit j)
-  pub some : T (not (allLevel v))
+  pub straight : (k : Axis) → T (level v k) → (j : Axis) → dot (vector_of m j) (vector_of m k) ≡ part k (unit j)
+  pub some : T (not (all_level v))
 
 -- ---- the cross product, expanded by the triangle
 crossed : (a b c d : Vector) → dot (cross a b) (cross c d) ≡ dot c a *ℤ dot d b -ℤ dot c b *ℤ dot d a
@@ -84,21 +84,21 @@ one-times : (z : ℤ) → pos 1 *ℤ z ≡ z
 one-times z = byring (z ∷ []) (search sides depth 40 fits 5000) tt
 
 -- with h the products of ν and p those of n
-turnBy : Triangle → (h p : Axis → ℤ) → Vector
-turnBy m h p = combined m (h axis1 *ℤ p axis2 -ℤ h axis2 *ℤ p axis1) (h axis2 *ℤ p axis0 -ℤ h axis0 *ℤ p axis2) (h axis0 *ℤ p axis1 -ℤ h axis1 *ℤ p axis0)
+turn_by : Triangle → (h p : Axis → ℤ) → Vector
+turn_by m h p = combined m (h axis1 *ℤ p axis2 -ℤ h axis2 *ℤ p axis1) (h axis2 *ℤ p axis0 -ℤ h axis0 *ℤ p axis2) (h axis0 *ℤ p axis1 -ℤ h axis1 *ℤ p axis0)
 
 module _ {s : Vector} {v : Levels} {n : Vector} {m : Triangle} (f : Face s v n m) (ν : Vector) where
   abbrev h : Axis → ℤ
-  h k = dot ν (vectorOf m k)
+  h k = dot ν (vector_of m k)
 
-  turn-expanded : square (cross ν n) ≡ square (turnBy m h (λ k. dot n (vectorOf m k)))
-  unfolding turnBy
+  turn-expanded : square (cross ν n) ≡ square (turn_by m h (λ k. dot n (vector_of m k)))
+  unfolding turn_by
   turn-expanded =
-      sym (one-times (square (cross ν n))) ∙ ap (λ z. z *ℤ square (cross ν n)) (sym f.unimodular) ∙ sym (square-scale (detOf m) (cross ν n)) ∙ ap square (expand m (cross ν n))
+      sym (one-times (square (cross ν n))) ∙ ap (λ z. z *ℤ square (cross ν n)) (sym f.unimodular) ∙ sym (square-scale (det_of m) (cross ν n)) ∙ ap square (expand m (cross ν n))
       ∙ rw (crossed m.m1 m.m2 ν n, crossed m.m2 m.m0 ν n, crossed m.m0 m.m1 ν n) refl
 
-  turn_is : square (cross ν n) ≡ square (turnBy m h (λ k. product (level v k)))
-  unfolding turnBy
+  turn_is : square (cross ν n) ≡ square (turn_by m h (λ k. product (level v k)))
+  unfolding turn_by
   turn_is = turn-expanded ∙ rw (f.products axis0, f.products axis1, f.products axis2) refl
 
 -- ---- that square, by the level axes
@@ -112,75 +112,75 @@ beside axis0 = P12
 beside axis1 = P02
 beside axis2 = P01
 
-abbrev onlyLevel : Axis → Levels
-onlyLevel axis0 = levels true false false
-onlyLevel axis1 = levels false true false
-onlyLevel axis2 = levels false false true
+abbrev only_level : Axis → Levels
+only_level axis0 = levels true false false
+only_level axis1 = levels false true false
+only_level axis2 = levels false false true
 
-abbrev allBut : Axis → Levels
-allBut axis0 = levels false true true
-allBut axis1 = levels true false true
-allBut axis2 = levels true true false
+abbrev all_but : Axis → Levels
+all_but axis0 = levels false true true
+all_but axis1 = levels true false true
+all_but axis2 = levels true true false
 
 module _ (m : Triangle) (h : Axis → ℤ) where
   abbrev atoms : List ℤ
   atoms = h axis0 ∷ h axis1 ∷ h axis2 ∷ of9 m
 
-  three-remain : square (turnBy m h (λ j. product (level noneLevel j)))
+  three-remain : square (turn_by m h (λ j. product (level none_level j)))
       ≡ square (way m P01) *ℤ ((h axis2 -ℤ h axis0) *ℤ ((h axis2 -ℤ h axis0) -ℤ (h axis1 -ℤ h axis0)))
       +ℤ square (way m P02) *ℤ ((h axis1 -ℤ h axis0) *ℤ ((h axis1 -ℤ h axis0) -ℤ (h axis2 -ℤ h axis0)))
       +ℤ square (way m P12) *ℤ ((h axis1 -ℤ h axis0) *ℤ (h axis2 -ℤ h axis0))
-  unfolding turnBy dot scale ◌⊕◌ ◌⊖◌
+  unfolding turn_by dot scale ◌⊕◌ ◌⊖◌
   three-remain = byring atoms (search sides depth 40 fits 5000) tt
 
   -- k alone is level: the side between the others and k's vector
-  one-level : (k : Axis) → square (turnBy m h (λ j. product (level (onlyLevel k) j))) ≡ quadratic (way m (beside k)) (vectorOf m k) (h (to (beside k)) -ℤ h (from (beside k))) (h k)
-  unfolding turnBy dot scale ◌⊕◌ ◌⊖◌
+  one-level : (k : Axis) → square (turn_by m h (λ j. product (level (only_level k) j))) ≡ quadratic (way m (beside k)) (vector_of m k) (h (to (beside k)) -ℤ h (from (beside k))) (h k)
+  unfolding turn_by dot scale ◌⊕◌ ◌⊖◌
   one-level axis0 = byring atoms (search sides depth 40 fits 5000) tt
   one-level axis1 = byring atoms (search sides depth 40 fits 5000) tt
   one-level axis2 = byring atoms (search sides depth 40 fits 5000) tt
 
   -- k alone remains: the vectors of the others
-  two-level : (k : Axis) → square (turnBy m h (λ j. product (level (allBut k) j))) ≡ quadratic (first m (beside k)) (second m (beside k)) (h (from (beside k))) (h (to (beside k)))
-  unfolding turnBy dot scale ◌⊕◌ ◌⊖◌
+  two-level : (k : Axis) → square (turn_by m h (λ j. product (level (all_but k) j))) ≡ quadratic (first m (beside k)) (second m (beside k)) (h (from (beside k))) (h (to (beside k)))
+  unfolding turn_by dot scale ◌⊕◌ ◌⊖◌
   two-level axis0 = byring atoms (search sides depth 40 fits 5000) tt
   two-level axis1 = byring atoms (search sides depth 40 fits 5000) tt
   two-level axis2 = byring atoms (search sides depth 40 fits 5000) tt
 
 -- what is level there
-is-level : (k : Axis) → T (level (onlyLevel k) k)
+is-level : (k : Axis) → T (level (only_level k) k)
 is-level axis0 = tt
 is-level axis1 = tt
 is-level axis2 = tt
 
-beside-takes : (k : Axis) → T (takesPart (onlyLevel k) (beside k))
-unfolding takesPart
+beside-takes : (k : Axis) → T (takes_part (only_level k) (beside k))
+unfolding takes_part
 beside-takes axis0 = tt
 beside-takes axis1 = tt
 beside-takes axis2 = tt
 
-from-level : (k : Axis) → T (level (allBut k) (from (beside k)))
+from-level : (k : Axis) → T (level (all_but k) (from (beside k)))
 from-level axis0 = tt
 from-level axis1 = tt
 from-level axis2 = tt
 
-to_level : (k : Axis) → T (level (allBut k) (to (beside k)))
+to_level : (k : Axis) → T (level (all_but k) (to (beside k)))
 to_level axis0 = tt
 to_level axis1 = tt
 to_level axis2 = tt
 
-beside-in : (k : Axis) → In (beside k) sidePairs
+beside-in : (k : Axis) → In (beside k) side_pairs
 beside-in axis0 = inr (inr (inl refl))
 beside-in axis1 = inr (inl refl)
 beside-in axis2 = inl refl
 
-one-count : (k : Axis) → levelCount (onlyLevel k) ≡ 1
+one-count : (k : Axis) → level_count (only_level k) ≡ 1
 unfolding only keep
 one-count axis0 = refl
 one-count axis1 = refl
 one-count axis2 = refl
 
-two-count : (k : Axis) → levelCount (allBut k) ≡ 2
+two-count : (k : Axis) → level_count (all_but k) ≡ 2
 unfolding only keep
 two-count axis0 = refl
 two-count axis1 = refl
@@ -221,10 +221,10 @@ within : {e z : ℤ} → z ≤ℤ e → neg_ℤ z ≤ℤ e → Small e z
 within {e} {z} h k = let a = atom e in let b = atom z in record { up = rest h; down = goal (search linear) (omega (arith, parts, fact (search linear) k)) }
 
 module _ {s : Vector} {v : Levels} {n : Vector} {m : Triangle} (f : Face s v n m) (ν : Vector) (e : ℤ) (held : WaysWithin ν e s v m) where
-  side-small : (x : Pair) → T (takesPart v x) → Small e (dot ν (way m x))
+  side-small : (x : Pair) → T (takes_part v x) → Small e (dot ν (way m x))
   side-small x t = within (held (sideways x) t) (rw (turned-way m x, dot-minus ν (way m x)) at (held (sideways (turned x)) (turned-takes v x t)))
 
-  level-small : (k : Axis) → T (level v k) → Small e (dot ν (vectorOf m k))
+  level-small : (k : Axis) → T (level v k) → Small e (dot ν (vector_of m k))
   level-small k t = rw (f.stays k t) (within (held (along k) t) (rw (lay-minus s (unit k), dot-minus ν (lay s (unit k))) at (held (against k) t)))
 
 -- ---- so |ν×n|² is at most S·e²
@@ -235,21 +235,21 @@ trans : {x y z : ℤ} → x ≤ℤ y → y ≤ℤ z → x ≤ℤ z
 trans {x} {y} {z} h k = omega (arith, parts)
 
 -- a side's square
-side-high : (v : Levels) (m : Triangle) (x : Pair) → In x sidePairs → T (takesPart v x) → (square (way m x) +ℤ pos (levelCount v)) ≤ℤ pos (spread v m)
+side-high : (v : Levels) (m : Triangle) (x : Pair) → In x side_pairs → T (takes_part v x) → (square (way m x) +ℤ pos (level_count v)) ≤ℤ pos (spread v m)
 side-high v m x i t =
     let k = spread-side v m x i t in
-    rw (← squared-is (way m x)) (let a = atom (pos (squared (way m x))) in let b = atom (pos (levelCount v)) in goal (search linear) (omega (arith, parts)))
+    rw (← squared-is (way m x)) (let a = atom (pos (squared (way m x))) in let b = atom (pos (level_count v)) in goal (search linear) (omega (arith, parts)))
 
 module _ (s n : Vector) (m : Triangle) (ν : Vector) (e : ℤ) where
   abbrev Closely : Levels → Type 0
   Closely v = square (cross ν n) ≤ℤ (pos (spread v m) *ℤ (e *ℤ e))
 
-  close-three : Face s noneLevel n m → WaysWithin ν e s noneLevel m → Closely noneLevel
-  unfolding takesPart only keep
+  close-three : Face s none_level n m → WaysWithin ν e s none_level m → Closely none_level
+  unfolding takes_part only keep
   close-three f held =
-      let S = pos (spread noneLevel m) in
+      let S = pos (spread none_level m) in
       let x = side-small f ν e held P01 tt in let y = side-small f ν e held P02 tt in let z = side-small f ν e held P12 tt in
-      rw (turn_is f ν ∙ three-remain m (λ k. dot ν (vectorOf m k)))
+      rw (turn_is f ν ∙ three-remain m (λ k. dot ν (vector_of m k)))
       (bounded S _ _ _ e _ _ (high P01 (inl refl) tt) (high P02 (inr (inl refl)) tt) (high P12 (inr (inr (inl refl))) tt) (square-up _) (square-up _) (square-up _)
       (small_is (dot-difference ν m.m1 m.m0) x) (small_is (dot-difference ν m.m2 m.m0) y)
       (small_is (dot-difference ν m.m2 m.m1 ∙ apart (dot ν m.m0) (dot ν m.m1) (dot ν m.m2)) z))
@@ -257,32 +257,32 @@ module _ (s n : Vector) (m : Triangle) (ν : Vector) (e : ℤ) where
       apart : (x y z : ℤ) → z -ℤ y ≡ (z -ℤ x) -ℤ (y -ℤ x)
       apart x y z = byring (x ∷ y ∷ z ∷ []) (search sides depth 40 fits 5000) tt
 
-      high : (x : Pair) → In x sidePairs → T (takesPart noneLevel x) → square (way m x) ≤ℤ pos (spread noneLevel m)
-      high x i t = let a = atom (square (way m x)) in omega (arith, parts, fact (search linear) (side-high noneLevel m x i t))
+      high : (x : Pair) → In x side_pairs → T (takes_part none_level x) → square (way m x) ≤ℤ pos (spread none_level m)
+      high x i t = let a = atom (square (way m x)) in omega (arith, parts, fact (search linear) (side-high none_level m x i t))
 
   -- k alone is level
-  close-one : (k : Axis) → Face s (onlyLevel k) n m → WaysWithin ν e s (onlyLevel k) m → Closely (onlyLevel k)
+  close-one : (k : Axis) → Face s (only_level k) n m → WaysWithin ν e s (only_level k) m → Closely (only_level k)
   close-one k f held =
-      let a = way m (beside k) in let b = vectorOf m k in
+      let a = way m (beside k) in let b = vector_of m k in
       let right : dot a b ≡ pos 0 = difference-dot (second m (beside k)) (first m (beside k)) b ∙ rw (f.straight k (is-level k) (to (beside k)), f.straight k (is-level k) (from (beside k))) (not-along k) in
-      let high : (square a +ℤ square b) ≤ℤ pos (spread (onlyLevel k) m) = rw (f.straight k (is-level k) k ∙ own-part k ∙ ap pos (sym (one-count k))) (side-high (onlyLevel k) m (beside k) (beside-in k) (beside-takes k)) in
-      rw (turn_is f ν ∙ one-level m (λ j. dot ν (vectorOf m j)) k)
+      let high : (square a +ℤ square b) ≤ℤ pos (spread (only_level k) m) = rw (f.straight k (is-level k) k ∙ own-part k ∙ ap pos (sym (one-count k))) (side-high (only_level k) m (beside k) (beside-in k) (beside-takes k)) in
+      rw (turn_is f ν ∙ one-level m (λ j. dot ν (vector_of m j)) k)
       (trans (right-close a b e _ _ right (small_is (dot-difference ν (second m (beside k)) (first m (beside k))) (side-small f ν e held (beside k) (beside-takes k))) (level-small f ν e held k (is-level k)))
       (further _ _ (e *ℤ e) high (square-from-zero e)))
 
   -- k alone remains
-  close-two : (k : Axis) → Face s (allBut k) n m → WaysWithin ν e s (allBut k) m → Closely (allBut k)
+  close-two : (k : Axis) → Face s (all_but k) n m → WaysWithin ν e s (all_but k) m → Closely (all_but k)
   close-two k f held =
       let i = from (beside k) in let j = to (beside k) in
-      let a = vectorOf m i in let b = vectorOf m j in
+      let a = vector_of m i in let b = vector_of m j in
       let right : dot a b ≡ pos 0 = f.straight j (to_level k) i ∙ from-part k in
-      let high : (square a +ℤ square b) ≤ℤ pos (spread (allBut k) m) = rw (f.straight i (from-level k) i ∙ own-part i, f.straight j (to_level k) j ∙ own-part j) (omega (arith, parts, spread-levels (allBut k) m, two-count k)) in
-      rw (turn_is f ν ∙ two-level m (λ j. dot ν (vectorOf m j)) k)
+      let high : (square a +ℤ square b) ≤ℤ pos (spread (all_but k) m) = rw (f.straight i (from-level k) i ∙ own-part i, f.straight j (to_level k) j ∙ own-part j) (omega (arith, parts, spread-levels (all_but k) m, two-count k)) in
+      rw (turn_is f ν ∙ two-level m (λ j. dot ν (vector_of m j)) k)
       (trans (right-close a b e _ _ right (level-small f ν e held i (from-level k)) (level-small f ν e held j (to_level k)))
       (further _ _ (e *ℤ e) high (square-from-zero e)))
 
   pub turn-close : (a b c : Bool) → Face s (levels a b c) n m → WaysWithin ν e s (levels a b c) m → Closely (levels a b c)
-  unfolding allLevel
+  unfolding all_level
   turn-close false false false f held = close-three f held
   turn-close true false false f held = close-one axis0 f held
   turn-close false true false f held = close-one axis1 f held
@@ -293,11 +293,11 @@ module _ (s n : Vector) (m : Triangle) (ν : Vector) (e : ℤ) where
   turn-close true true true f held = absurd f.some
 
 -- ---- the spread is at least 1: a side of no length would make the determinant 0
-height-of : (m : Triangle) → detOf m ≡ dot m.m0 (cross (way m P01) (way m P02))
+height-of : (m : Triangle) → det_of m ≡ dot m.m0 (cross (way m P01) (way m P02))
 unfolding det dot cross ◌⊖◌
 height-of m = byring (of9 m) (search sides depth 40 fits 5000) tt
 
-side-long : (m : Triangle) → detOf m *ℤ detOf m ≡ pos 1 → pos 1 ≤ℤ square (way m P01)
+side-long : (m : Triangle) → det_of m *ℤ det_of m ≡ pos 1 → pos 1 ≤ℤ square (way m P01)
 side-long m d = go (compared (square a) (pos 1))
   where
     a : Vector
@@ -315,17 +315,17 @@ side-long m d = go (compared (square a) (pos 1))
     go : (square a <ℤ pos 1) ⊎ (pos 1 ≤ℤ square a) → pos 1 ≤ℤ square a
     go (inr h) = h
     go (inl h) =
-        let r : pos 0 ≤ℤ (square m.m0 *ℤ (square a *ℤ square b -ℤ dot a b *ℤ dot a b) -ℤ detOf m *ℤ detOf m) = rw (height-of m, ← lagrange a b, ← lagrange m.m0 (cross a b)) (square-up (cross m.m0 (cross a b))) in
-        absurd (omega (arith, parts, flat (square a) (square b) (dot a b) (square m.m0) (detOf m) h (square-up b) (square-up m.m0) r, d))
+        let r : pos 0 ≤ℤ (square m.m0 *ℤ (square a *ℤ square b -ℤ dot a b *ℤ dot a b) -ℤ det_of m *ℤ det_of m) = rw (height-of m, ← lagrange a b, ← lagrange m.m0 (cross a b)) (square-up (cross m.m0 (cross a b))) in
+        absurd (omega (arith, parts, flat (square a) (square b) (dot a b) (square m.m0) (det_of m) h (square-up b) (square-up m.m0) r, d))
 
 pub spread-high : {s n : Vector} {m : Triangle} (a b c : Bool) → Face s (levels a b c) n m → pos 1 ≤ℤ pos (spread (levels a b c) m)
-unfolding takesPart only keep
+unfolding takes_part only keep
 spread-high {m = m} true b c f = omega (arith, parts, spread-levels (levels true b c) m)
 spread-high {m = m} false true c f = omega (arith, parts, spread-levels (levels false true c) m)
 spread-high {m = m} false false true f = omega (arith, parts, spread-levels (levels false false true) m)
 spread-high {m = m} false false false f =
     let z = atom (square (way m P01)) in
-    omega (arith, parts, fact (search linear) (side-high noneLevel m P01 (inl refl) tt), side-long m f.unimodular)
+    omega (arith, parts, fact (search linear) (side-high none_level m P01 (inl refl) tt), side-long m f.unimodular)
 
 -- ---- a vector that has product 1 with another is not zero, so the normal is not
 pub long : (n a : Vector) → dot n a ≡ pos 1 → pos 1 ≤ℤ square n
@@ -339,4 +339,4 @@ long n a is_one = go (compared (square n) (pos 1))
     go (inl h) = absurd (omega (arith, parts, none (square n) (square a) h (square-up a) (rw is_one at (rw (lagrange n a) at (square-up (cross n a))))))
 
 pub normal-long : {s : Vector} {v : Levels} {n : Vector} {m : Triangle} → Face s v n m → pos 1 ≤ℤ square n
-normal-long {v = v} {n} {m} f = let k = lowest v f.some in long n (vectorOf m k.0) (f.products k.0 ∙ ap product (is-not (level v k.0) k.1))
+normal-long {v = v} {n} {m} f = let k = lowest v f.some in long n (vector_of m k.0) (f.products k.0 ∙ ap product (is-not (level v k.0) k.1))

@@ -9,7 +9,7 @@ use Rattle.rules.specs.declared.Vector.{Vector}
 use Rattle.rules.specs.declared.Look.TheVariants.{Filled}
 use Rattle.rules.specs.declared.Levels.{Levels}
 use Rattle.rules.specs.Vectors.{minus, scale, dot, lay}
-use Rattle.rules.specs.Walk.{Axis, axis0, axis1, axis2, unit, level, allLevel, Probe, Found}
+use Rattle.rules.specs.Walk.{Axis, axis0, axis1, axis2, unit, level, all_level, Probe, Found}
 use Rattle.rules.specs.Lean.{is_zero}
 use Rattle.laws.specs.Parts.{part, dot-sum, dot-scale, dot-minus, dot-unit}
 use Rattle.laws.specs.Levels.{remains, remaining-count, some-remain, is-zero, levels-of}
@@ -44,12 +44,12 @@ pub part-high : (b : Bool) (x y : ℤ) → (b ≡ false → pos 1 ≤ℤ x) → 
 part-high true x y h e k = rw (e refl) (let a = atom x in goal (search linear) (omega arith))
 part-high false x y h e k = at_most ((x -ℤ pos 1) *ℤ (y -ℤ pos 1) +ℤ (x -ℤ pos 1) +ℤ (y -ℤ pos 1)) (rest (h refl) by rest (k refl) and rest (h refl) and rest (k refl)) (byring (x ∷ y ∷ []) (search sides depth 40 fits 5000) tt)
 
-pub sum-high : (v : Levels) → T (not (allLevel v)) → (f : Axis → ℤ) → ((k : Axis) → pos (remains (level v k)) ≤ℤ f k) → pos 0 <ℤ (f axis0 +ℤ f axis1 +ℤ f axis2)
+pub sum-high : (v : Levels) → T (not (all_level v)) → (f : Axis → ℤ) → ((k : Axis) → pos (remains (level v k)) ≤ℤ f k) → pos 0 <ℤ (f axis0 +ℤ f axis1 +ℤ f axis2)
 sum-high v t f h =
     let x = atom (f axis0) in let y = atom (f axis1) in let z = atom (f axis2) in
     goal (search linear) (omega (arith, parts, h axis0, h axis1, h axis2, some-remain v t, remaining-count v))
 
-parts-high : (v : Levels) (a b : Vector) → T (not (allLevel v)) → ((k : Axis) → pos (remains (level v k)) ≤ℤ (part k a *ℤ part k b)) → pos 0 <ℤ dot a b
+parts-high : (v : Levels) (a b : Vector) → T (not (all_level v)) → ((k : Axis) → pos (remains (level v k)) ≤ℤ (part k a *ℤ part k b)) → pos 0 <ℤ dot a b
 unfolding dot
 parts-high v a b t h = sum-high v t (λ k. part k a *ℤ part k b) h
 

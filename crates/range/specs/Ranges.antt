@@ -6,7 +6,7 @@ use Rattle.std.proofs.Math.Facts.{and_yes}
 use Rattle.integers.specs.Order.{parts}
 use Rattle.integers.specs.Sizes.{Within, sizes}
 use Rattle.rules.specs.declared.Vector.{Vector}
-use Rattle.rules.specs.Solids.{between, inSide, inBox}
+use Rattle.rules.specs.Solids.{between, in_side, in_box}
 
 pub between-yes : (low x high : ℤ) → T (between low x high) → (low ≤ℤ x) × (x ≤ℤ high)
 unfolding between
@@ -34,12 +34,12 @@ pub record InSides (sides p : Vector) : Type 0 where
   pub of-y : InSide sides.y p.y
   pub of-z : InSide sides.z p.z
 
-in-side : (side x : ℤ) → T (inSide side x) → InSide side x
+in-side : (side x : ℤ) → T (in_side side x) → InSide side x
 in-side side x t = let h = and_yes (le_z (pos 0) x) (lt_z x side) t in record { low = le_z_yes h.0; below = lt_z_yes h.1 }
 
-pub in-sides : (sides p : Vector) → T (inBox sides p) → InSides sides p
-unfolding inBox
+pub in-sides : (sides p : Vector) → T (in_box sides p) → InSides sides p
+unfolding in_box
 in-sides sides p t =
-    let h = and_yes (inSide sides.x p.x) _ t in
-    let k = and_yes (inSide sides.y p.y) (inSide sides.z p.z) h.1 in
+    let h = and_yes (in_side sides.x p.x) _ t in
+    let k = and_yes (in_side sides.y p.y) (in_side sides.z p.z) h.1 in
     record { of-x = in-side _ _ h.0; of-y = in-side _ _ k.0; of-z = in-side _ _ k.1 }

@@ -4,7 +4,7 @@ use Prim.Native.Nat.{ℕ, ◌+◌, ◌≤◌, ◌<◌}
 use native.Mathlib.Omega.{arith}
 use lib.Dec.{lit<, lit≤}
 use lib.ListN.{length}
-use Rattle.rules.specs.Walk.{powersFrom, powers}
+use Rattle.rules.specs.Walk.{powers_from, powers}
 use Rattle.laws.specs.Powers.{powers-last, powers-more}
 
 -- those from l on, and the n - 1 before it, are all
@@ -14,7 +14,7 @@ pub record Counting (R l n : ℕ) : Type 0 where
   pub few : n ≤ l
   pub fuel : ℕ
   pub enough : R ≤ l + fuel
-  pub rest : n + length (powersFrom fuel l R) ≡ length (powers R) + 1
+  pub rest : n + length (powers_from fuel l R) ≡ length (powers R) + 1
 
 pub counting-starts : {R : ℕ} → Counting R 1 1
 unfolding powers

@@ -1,7 +1,7 @@
 // Refusal 13: whether a walk may begin from a ready start.
 ghost use Rattle.std.specs.Prelude.{◌≡◌, ◌≤◌, length};
 ghost use Rattle.rules.specs.Walk.{powers};
-ghost use Rattle.rules.specs.TwoCalls.{isReady};
+ghost use Rattle.rules.specs.TwoCalls.{is_ready};
 
 use rules::ReadyStart;
 
@@ -22,7 +22,7 @@ fn count_powers(reach: u32) -> u32
 // At most 2 + 6K looks, and some axis is not level.
 pub fn is_ready(d: ReadyStart, reach: u32) -> bool
     requires { reach ≤ 256 }
-    ensures { result ≡ isReady (length (powers reach)) d }
+    ensures { result ≡ is_ready (length (powers reach)) d }
 {
     let most = 2 + 6 * count_powers(reach);
     let level = d.level;

@@ -3,12 +3,12 @@ use Rattle.std.specs.Prelude.{ℕ}
 use Rattle.rules.specs.declared.Vector.{Vector}
 use Rattle.rules.specs.declared.Refused.{Refused}
 use Rattle.rules.specs.Walk.{Stop}
-use Rattle.laws.specs.Answers.{stopOf}
+use Rattle.laws.specs.Answers.{stop_of}
 use Rattle.laws.specs.Tally.{Tally, no}
 
-abbrev pub refusalOf : ℕ → Vector → ℕ → ℕ → Refused
-refusalOf number place steps looks = record { number = number; place = place; steps = steps; looks = looks }
+abbrev pub refusal_of : ℕ → Vector → ℕ → ℕ → Refused
+refusal_of number place steps looks = record { number = number; place = place; steps = steps; looks = looks }
 
 -- with the looks so far
-abbrev pub refusalTally : {A : Type 0} → Refused → Tally Stop A
-refusalTally r = no (stopOf r) r.looks
+abbrev pub refusal_tally : {A : Type 0} → Refused → Tally Stop A
+refusal_tally r = no (stop_of r) r.looks

@@ -7,12 +7,12 @@ use lib.Dec.{T, leb, leb→le}
 use mir.Syntax.{w32}
 use mir.Val.{Fits, bool_byte}
 use Rattle.rules.specs.declared.Levels.{Levels}
-use Rattle.rules.specs.Walk.{levels, from, to, takesPart}
+use Rattle.rules.specs.Walk.{levels, from, to, takes_part}
 use Rattle.laws.specs.Flags.{at_most_one}
 use Rattle.choice.specs.Best.{pair_at}
 use Rattle.choice.specs.Numbers.{by_number}
 use Rattle.round.specs.Corners.{index}
-use Rattle.round.specs.Round.{asksBit, Skips}
+use Rattle.round.specs.Round.{asks_bit, Skips}
 
 pub first-is : (n : ℕ) → n < 6 → n / 2 ≡ index (from (pair_at n))
 unfolding index
@@ -35,10 +35,10 @@ pub ruleset seconds = (second-low, second-high)
 
 -- ---- level axes
 abbrev SkipsAt : Bool → Bool → Bool → ℕ → Type 0
-SkipsAt x y z n = asksBit (5 * bool_byte (x || y) + 18 * bool_byte (x || z) + 40 * bool_byte (y || z)) n ≡ takesPart (levels x y z) (pair_at n)
+SkipsAt x y z n = asks_bit (5 * bool_byte (x || y) + 18 * bool_byte (x || z) + 40 * bool_byte (y || z)) n ≡ takes_part (levels x y z) (pair_at n)
 
 skips-levels : (x y z : Bool) (n : ℕ) → n < 6 → SkipsAt x y z n
-unfolding takesPart
+unfolding takes_part
 skips-levels false false false = by_number (SkipsAt false false false) refl refl refl refl refl refl
 skips-levels false false true = by_number (SkipsAt false false true) refl refl refl refl refl refl
 skips-levels false true false = by_number (SkipsAt false true false) refl refl refl refl refl refl

@@ -11,10 +11,10 @@ use Rattle.rules.specs.Walk.{Probe}
 use Rattle.laws.specs.Tally.{Tally, yes, no, gives-settled}
 use Rattle.round.specs.declared.Round.{Round}
 use Rattle.round.specs.declared.Round.TheVariants.{Asked as IsAsked, Stopped}
-use Rattle.choice.specs.Best.{bestOf, choice_of}
+use Rattle.choice.specs.Best.{best_of, choice_of}
 use Rattle.choice.specs.Numbers.{by-each}
-use Rattle.choice.specs.Lighter.{bestWeight}
-use Rattle.round.specs.Round.{roundTally, Weighed, RoundAsked}
+use Rattle.choice.specs.Lighter.{best_weight}
+use Rattle.round.specs.Round.{round_tally, Weighed, RoundAsked}
 
 number_of : Choice → ℕ
 number_of (Chosen P01) = 0
@@ -30,12 +30,12 @@ unfolding number_of
 number-again = by-each (λ n. n ≤ 6 → number_of (choice_of n) ≡ n) (λ h. refl) (λ h. refl) (λ h. refl) (λ h. refl) (λ h. refl) (λ h. refl) (λ n h. omega arith)
 
 made : Triangle → Tally Vector Choice → Round
-made m (yes c n) = IsAsked (bestOf (number_of c) (bestWeight m c)) n
+made m (yes c n) = IsAsked (best_of (number_of c) (best_weight m c)) n
 made m (no p n) = Stopped p n
 
-made_again : (m : Triangle) (r : Round) → Weighed m r → made m (roundTally r) ≡ r
+made_again : (m : Triangle) (r : Round) → Weighed m r → made m (round_tally r) ≡ r
 unfolding made
-made_again m (IsAsked k n) h = λ i. IsAsked (bestOf (number-again k.pair h.numbered i) (sym h.weighs i)) n
+made_again m (IsAsked k n) h = λ i. IsAsked (best_of (number-again k.pair h.numbered i) (sym h.weighs i)) n
 made_again m (Stopped p n) h = refl
 
 pub round-asked-settled : {c : Probe} {m : Triangle} {level : Levels} {looks : ℕ} {r t : Round} → RoundAsked c m level looks r → RoundAsked c m level looks t → r ≡ t

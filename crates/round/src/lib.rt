@@ -3,13 +3,13 @@ ghost use Rattle.std.specs.Prelude.{◌≡◌, ◌<◌};
 ghost use Rattle.rules.specs.Walk.{from, to};
 ghost use Rattle.laws.specs.Bounds.{Bounded};
 ghost use Rattle.laws.specs.Tally.{Countable};
-ghost use Rattle.solid.specs.Grid.{ranksOf};
-ghost use Rattle.falls.specs.Scene.{probeOf, Ready};
+ghost use Rattle.solid.specs.Grid.{ranks_of};
+ghost use Rattle.falls.specs.Scene.{probe_of, Ready};
 ghost use Rattle.choice.specs.Best.{pair_at};
 ghost use Rattle.choice.specs.Sound.{Sound};
 ghost use Rattle.choice.specs.Lighter.{Weighs};
-ghost use Rattle.round.specs.Corners.{index, cornerAt, rank_at, put_at, stepped, cornersIn, triangleIn, Ranked, Small};
-ghost use Rattle.round.specs.Round.{Skips, asksBit, settled, WayAsked, RoundAsked};
+ghost use Rattle.round.specs.Corners.{index, corner_at, rank_at, put_at, stepped, corners_in, triangle_in, Ranked, Small};
+ghost use Rattle.round.specs.Round.{Skips, asks_bit, settled, WayAsked, RoundAsked};
 
 use choice::Best;
 use falls::{Falls, Scene};
@@ -47,7 +47,7 @@ pub fn second_of(pair: u32) -> u32
 // m_k
 fn corner(m: &[i32; 12], k: u32) -> Vector
     requires { k < 3 }
-    ensures { result ≡ cornerAt m.now k }
+    ensures { result ≡ corner_at m.now k }
 {
     let i = 4 * k;
     let x = m[i as usize];
@@ -57,7 +57,7 @@ fn corner(m: &[i32; 12], k: u32) -> Vector
 }
 
 pub fn triangle_of(m: &[i32; 12]) -> Triangle
-    ensures { result ≡ cornersIn m.now }
+    ensures { result ≡ corners_in m.now }
 {
     let a = corner(m, 0);
     let b = corner(m, 1);
@@ -118,7 +118,7 @@ fn skipped(level: Levels) -> u32
 
 fn takes_part(skip: u32, pair: u32) -> bool
     requires { pair < 6 }
-    ensures { result ≡ asksBit skip pair }
+    ensures { result ≡ asks_bit skip pair }
 {
     (skip >> pair) % 2 == 0
 }
@@ -139,8 +139,8 @@ fn settle(pair: u32, best: Best, b: Vector, w: Vector, f: Falls) -> Round
 
 // A pair that takes part, after those of which `best` is the best. The way's rank is the difference of the vectors' ranks.
 fn ask_way(scene: Scene, bytes: &[u8], m: &[i32; 12], pair: u32, best: Best, looks: u32) -> Round
-    requires { Ready scene bytes.now × Sound (triangleIn scene.signs m.now) × Ranked (ranksOf scene.solid) m.now × (pair < 6) × Weighs (triangleIn scene.signs m.now) best × Countable 1 looks }
-    ensures { WayAsked (probeOf scene bytes.now) (triangleIn scene.signs m.now) (pair_at pair) best looks result }
+    requires { Ready scene bytes.now × Sound (triangle_in scene.signs m.now) × Ranked (ranks_of scene.solid) m.now × (pair < 6) × Weighs (triangle_in scene.signs m.now) best × Countable 1 looks }
+    ensures { WayAsked (probe_of scene bytes.now) (triangle_in scene.signs m.now) (pair_at pair) best looks result }
 {
     let k = first_of(pair);
     let l = second_of(pair);
@@ -154,8 +154,8 @@ fn ask_way(scene: Scene, bytes: &[u8], m: &[i32; 12], pair: u32, best: Best, loo
 
 // All pairs that take part, even after one has fallen. One call in a loop and not six: so the question is compiled in place.
 pub fn ask_round(scene: Scene, bytes: &[u8], level: Levels, m: &[i32; 12], looks: u32) -> Round
-    requires { Ready scene bytes.now × Sound (triangleIn scene.signs m.now) × Ranked (ranksOf scene.solid) m.now × Countable 6 looks }
-    ensures { RoundAsked (probeOf scene bytes.now) (triangleIn scene.signs m.now) level looks result }
+    requires { Ready scene bytes.now × Sound (triangle_in scene.signs m.now) × Ranked (ranks_of scene.solid) m.now × Countable 6 looks }
+    ensures { RoundAsked (probe_of scene bytes.now) (triangle_in scene.signs m.now) level looks result }
 {
     let skip = skipped(level);
     let mut best = choice::none();

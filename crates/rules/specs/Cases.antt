@@ -20,16 +20,16 @@ use Rattle.rules.specs.declared.Line.TheVariants.{Asks, OtherForm}
 use Rattle.rules.specs.declared.Display.{Display}
 use Rattle.rules.specs.declared.Display.TheVariants.{Lit}
 use Rattle.rules.specs.Vectors.{vector, ◌⊕◌, ◌⊖◌, minus, scale, dot, cross, det, sphere, lay, size}
-use Rattle.rules.specs.Solids.{between, permittedWedge, filledWedge, inBox, look}
+use Rattle.rules.specs.Solids.{between, permitted_wedge, filled_wedge, in_box, look}
 use Rattle.rules.specs.Asked.{after, ◌>>=◌}
-use Rattle.rules.specs.Walk.{levels, noneLevel, ensure, sign, signs, seen, asked, powersFrom, powers, triangle, normal, allLevel, keep, only, remaining, takesPart, levelled, determinant, inside, anyInside, firstFree, choice, lookAt, fallsAt, facing, isLevel, axes, start, cornersFilled, allCorners, quickStart, falling, round, walk, rounds, found, end}
-use Rattle.rules.specs.Pick.{isInside, placing, judging, check, pick, answer, pick_of}
-use Rattle.rules.specs.TwoCalls.{readyStart, checkAnswer, checkOf, isReady, readiness, walkOn, answerFrom, walkAnswer, walk_of}
+use Rattle.rules.specs.Walk.{levels, none_level, ensure, sign, signs, seen, asked, powers_from, powers, triangle, normal, all_level, keep, only, remaining, takes_part, levelled, determinant, inside, any_inside, first_free, choice, look_at, falls_at, facing, is_level, axes, start, corners_filled, all_corners, quick_start, falling, round, walk, rounds, found, end}
+use Rattle.rules.specs.Pick.{is_inside, placing, judging, check, pick, answer, pick_of}
+use Rattle.rules.specs.TwoCalls.{ready_start, check_answer, check_of, is_ready, readiness, walk_on, answer_from, walk_answer, walk_of}
 use Rattle.rules.specs.Touch.{touch, marked, touch_of}
 use Rattle.rules.specs.Texts.{bytes}
-use Rattle.rules.specs.Decimals.{isDigit, areDigits, value, figure, digits}
-use Rattle.rules.specs.Display.{largest, size_of, component, permittedNormal, light, display}
-use Rattle.rules.specs.Session.{parts, fewDigits, within32, signed, number, next, onlyThese, question, three, counts, toldAccepted, toldRefused, told, reply, replies, session}
+use Rattle.rules.specs.Decimals.{is_digit, are_digits, value, figure, digits}
+use Rattle.rules.specs.Display.{largest, size_of, component, permitted_normal, light, display}
+use Rattle.rules.specs.Session.{parts, few_digits, within32, signed, number, next, only_these, question, three, counts, told_accepted, told_refused, told, reply, replies, session}
 
 -- a session; a line of it, for the triangle vectors that its pick ends with, for its touch, or for the vectors of that, for its start check; a line and what else a walk is handed
 -- beside the line's start: the apex, the level axes and the looks; whole numbers to display
@@ -51,41 +51,41 @@ vectors_of : Pick → Result
 vectors_of (Accepted a) = vectors a.triangle
 vectors_of (Refused r) = none
 
-cornersOf : Line → Result
-cornersOf (Asks q) = vectors_of (pick_of (IsWedge q.wedge) [] q.p q.frame q.reach)
-cornersOf OtherForm = none
+corners_of : Line → Result
+corners_of (Asks q) = vectors_of (pick_of (IsWedge q.wedge) [] q.p q.frame q.reach)
+corners_of OtherForm = none
 
-guessOf : Touch → Result
-guessOf (Guess a) = guessed a.normal a.steps a.looks
-guessOf (TouchRefused r) = refused r.number r.place r.steps r.looks
+guess_of : Touch → Result
+guess_of (Guess a) = guessed a.normal a.steps a.looks
+guess_of (TouchRefused r) = refused r.number r.place r.steps r.looks
 
-guessVectors : Touch → Result
-guessVectors (Guess a) = vectors a.triangle
-guessVectors (TouchRefused r) = none
+guess_vectors : Touch → Result
+guess_vectors (Guess a) = vectors a.triangle
+guess_vectors (TouchRefused r) = none
 
-touchedBy : (Touch → Result) → Line → Result
-touchedBy result (Asks q) = result (touch_of (IsWedge q.wedge) [] q.p q.frame q.reach)
-touchedBy result OtherForm = none
+touched_by : (Touch → Result) → Line → Result
+touched_by result (Asks q) = result (touch_of (IsWedge q.wedge) [] q.p q.frame q.reach)
+touched_by result OtherForm = none
 
-checkedBy : Check → Result
-checkedBy (Ready d) = readied d
-checkedBy (CheckRefused r) = refused r.number r.place r.steps r.looks
+checked_by : Check → Result
+checked_by (Ready d) = readied d
+checked_by (CheckRefused r) = refused r.number r.place r.steps r.looks
 
-checkBy : Line → Result
-checkBy (Asks q) = checkedBy (checkOf (IsWedge q.wedge) [] q.p q.frame q.reach)
-checkBy OtherForm = none
+check_by : Line → Result
+check_by (Asks q) = checked_by (check_of (IsWedge q.wedge) [] q.p q.frame q.reach)
+check_by OtherForm = none
 
-walkBy : Vector → Levels → ℕ → Line → Result
-walkBy apex level looks (Asks q) = text (told (walk_of (IsWedge q.wedge) [] (readyStart q.p apex level looks) q.frame q.reach))
-walkBy apex level looks OtherForm = none
+walk_by : Vector → Levels → ℕ → Line → Result
+walk_by apex level looks (Asks q) = text (told (walk_of (IsWedge q.wedge) [] (ready_start q.p apex level looks) q.frame q.reach))
+walk_by apex level looks OtherForm = none
 
 run : Case → Result
 run (prints input) = text (session (bytes input))
-run (corners line) = cornersOf (question (bytes line))
-run (touches line) = touchedBy guessOf (question (bytes line))
-run (guesses line) = touchedBy guessVectors (question (bytes line))
-run (checks line) = checkBy (question (bytes line))
-run (walks line apex level looks) = walkBy apex level looks (question (bytes line))
+run (corners line) = corners_of (question (bytes line))
+run (touches line) = touched_by guess_of (question (bytes line))
+run (guesses line) = touched_by guess_vectors (question (bytes line))
+run (checks line) = check_by (question (bytes line))
+run (walks line apex level looks) = walk_by apex level looks (question (bytes line))
 run (shows x y z) = shown (display x y z)
 
 -- what the list expects: a text, the vectors (1,0,0), (-1,1,0), (-2,-1,1), a touch or a check refused at a place, a ready start of W1's
@@ -103,7 +103,7 @@ at : ℕ → Vector
 at k = vector (pos k) (pos k) (pos k)
 
 hands : Levels → ℕ → Result
-hands level looks = readied (readyStart (at 100) (at 101) level looks)
+hands level looks = readied (ready_start (at 100) (at 101) level looks)
 
 over : ℕ → ℕ → ℕ → Result
 over a b c = shown (Lit record { x = rounded binary32 false a 32768; y = rounded binary32 false b 32768; z = rounded binary32 false c 32768 })
@@ -168,22 +168,22 @@ worked-cases :
     ∷ checks "0 1 1 202 0 100 100 0 8"
     ∷ checks "1 1 1 301 100 100 100 0 1"
     ∷ checks "1 2 5 808 100 100 100 0 257"
-    ∷ walks "1 2 5 808 100 100 100 0 8" (at 101) noneLevel 5
-    ∷ walks "1 2 5 808 100 100 100 0 8" (at 101) noneLevel 0
-    ∷ walks "1 2 5 808 100 100 100 0 8" (at 101) noneLevel 26
-    ∷ walks "1 2 5 808 100 100 100 0 8" (at 101) noneLevel 27
+    ∷ walks "1 2 5 808 100 100 100 0 8" (at 101) none_level 5
+    ∷ walks "1 2 5 808 100 100 100 0 8" (at 101) none_level 0
+    ∷ walks "1 2 5 808 100 100 100 0 8" (at 101) none_level 26
+    ∷ walks "1 2 5 808 100 100 100 0 8" (at 101) none_level 27
     ∷ walks "1 2 5 808 100 100 100 0 8" (at 101) (levels true true true) 5
-    ∷ walks "1 2 5 808 -1 0 0 0 8" (at 101) noneLevel 99
-    ∷ walks "1 2 5 808 100 100 100 0 8" (vector (pos 101) (pos 1024) (pos 101)) noneLevel 5
-    ∷ walks "1 2 5 808 0 0 0 0 8" (at 101) noneLevel 5
-    ∷ walks "1 2 5 808 100 100 100 0 8" (at 50) noneLevel 5
+    ∷ walks "1 2 5 808 -1 0 0 0 8" (at 101) none_level 99
+    ∷ walks "1 2 5 808 100 100 100 0 8" (vector (pos 101) (pos 1024) (pos 101)) none_level 5
+    ∷ walks "1 2 5 808 0 0 0 0 8" (at 101) none_level 5
+    ∷ walks "1 2 5 808 100 100 100 0 8" (at 50) none_level 5
     ∷ walks "1 2 5 808 100 100 100 0 8" (at 101) (levels true true false) 5
     ∷ walks "1 2 5 808 100 100 100 0 8" (at 101) (levels true false false) 5
     ∷ walks "1 2 5 808 100 100 100 8 8" (at 101) (levels true true true) 900
-    ∷ walks "1 2 5 808 100 100 100 1 8" (at 101) noneLevel 5
+    ∷ walks "1 2 5 808 100 100 100 1 8" (at 101) none_level 5
     ∷ walks "1 2 5 808 0 0 0 0 1" (at 0) (levels true false true) 8
     ∷ walks "1 2 5 808 0 0 0 0 1" (at 0) (levels true false true) 9
-    ∷ walks "1 1 1 3 0 0 0 0 3" (at 1) noneLevel 5
+    ∷ walks "1 1 1 3 0 0 0 0 3" (at 1) none_level 5
     ∷ [])
     ≡ says "N 1 2 5 5 116\n"
     ∷ says "N 1 2 5 5 144\n"
@@ -235,11 +235,11 @@ worked-cases :
     ∷ guessed (vector (pos 1) (pos 1) (pos 1)) 0 11
     ∷ refused 8 (vector (negsuc 0) (pos 2) (pos 1)) 1 11
     ∷ stops 1 0 0 0 0 0
-    ∷ hands noneLevel 5
+    ∷ hands none_level 5
     ∷ hands (levels true false false) 12
     ∷ hands (levels true true false) 7
     ∷ stops 6 2 2 2 0 2
-    ∷ readied (readyStart (at 0) (at 1) noneLevel 5)
+    ∷ readied (ready_start (at 0) (at 1) none_level 5)
     ∷ refused 8 (vector (negsuc 0) (pos 101) (pos 101)) 0 3
     ∷ stops 7 100 101 101 0 8
     ∷ stops 1 0 0 0 0 0
@@ -260,5 +260,5 @@ worked-cases :
     ∷ says "R 13 0 0 0 0 0\n"
     ∷ says "R 8 -1 3 1 0 6\n"
     ∷ []
-unfolding run bytes cornersOf vectors_of guessOf guessVectors touchedBy checkedBy checkBy walkBy says ends stops at hands over ◌⊕◌ ◌⊖◌ minus scale dot cross det sphere lay size between permittedWedge filledWedge inBox look after ◌>>=◌ ensure sign signs seen asked powersFrom powers normal allLevel keep only remaining takesPart levelled determinant inside anyInside firstFree choice lookAt fallsAt facing isLevel axes start cornersFilled allCorners quickStart falling round walk rounds found end isInside placing judging check pick answer pick_of checkAnswer checkOf isReady readiness walkOn answerFrom walkAnswer walk_of touch marked touch_of isDigit areDigits value figure digits parts fewDigits within32 signed number next onlyThese question three counts toldAccepted toldRefused told reply replies session largest size_of component permittedNormal light display
+unfolding run bytes corners_of vectors_of guess_of guess_vectors touched_by checked_by check_by walk_by says ends stops at hands over ◌⊕◌ ◌⊖◌ minus scale dot cross det sphere lay size between permitted_wedge filled_wedge in_box look after ◌>>=◌ ensure sign signs seen asked powers_from powers normal all_level keep only remaining takes_part levelled determinant inside any_inside first_free choice look_at falls_at facing is_level axes start corners_filled all_corners quick_start falling round walk rounds found end is_inside placing judging check pick answer pick_of check_answer check_of is_ready readiness walk_on answer_from walk_answer walk_of touch marked touch_of is_digit are_digits value figure digits parts few_digits within32 signed number next only_these question three counts told_accepted told_refused told reply replies session largest size_of component permitted_normal light display
 worked-cases = refl

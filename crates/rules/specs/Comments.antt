@@ -1,10 +1,10 @@
 -- Stacks whose comments touch (document 02's 2026-02): one statement over a list, by evaluation. Apart from the other cases, so that it rests on the rules of P4 alone.
 use Rattle.std.specs.Prelude.{◌≡◌, refl, List, [], ◌∷◌, map, ℕ}
 use Prim.Native.String.{String}
-use Rattle.rules.specs.Solids.{rowBytes, sliceBytes}
+use Rattle.rules.specs.Solids.{row_bytes, slice_bytes}
 use Rattle.rules.specs.Texts.{bytes}
-use Rattle.rules.specs.Decimals.{isDigit, areDigits, value}
-use Rattle.rules.specs.P4.{Judged, good, wrong, ◌>>=◌, judge, stands, isEnd, isWhite, commentAt, white, mix, digitsAt, field_at, header_at, padding, cut, row, rows, imageAt, imagesAt, sizes, Contents, contents}
+use Rattle.rules.specs.Decimals.{is_digit, are_digits, value}
+use Rattle.rules.specs.P4.{Judged, good, wrong, ◌>>=◌, judge, stands, is_end, is_white, comment_at, white, mix, digits_at, field_at, header_at, padding, cut, row, rows, image_at, images_at, sizes, Contents, contents}
 
 reads : String → Judged Contents
 reads input = contents (bytes input)
@@ -58,5 +58,5 @@ touching-comments :
     ∷ refuses 25 10
     ∷ holds 3 2 2 (160 ∷ 64 ∷ 32 ∷ 192 ∷ [])
     ∷ []
-unfolding reads bytes holds refuses rowBytes sliceBytes isDigit areDigits value ◌>>=◌ judge stands isEnd isWhite commentAt white mix digitsAt field_at header_at padding cut row rows imageAt imagesAt contents
+unfolding reads bytes holds refuses row_bytes slice_bytes is_digit are_digits value ◌>>=◌ judge stands is_end is_white comment_at white mix digits_at field_at header_at padding cut row rows image_at images_at contents
 touching-comments = refl

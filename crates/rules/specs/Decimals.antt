@@ -1,12 +1,12 @@
 -- Decimal digits as bytes. These are definitions: nothing here is proved.
 use Rattle.std.specs.Prelude.{Bool, true, false, ◌&&◌, List, [], ◌∷◌, ◌++◌, ℕ, zero, suc, ◌+◌, ◌-◌, ◌*◌, ◌/◌, ◌%◌, leb, ltb, ℤ, pos, negsuc}
 
-unfoldable pub isDigit : ℕ → Bool
-isDigit b = leb 48 b && leb b 57
+unfoldable pub is_digit : ℕ → Bool
+is_digit b = leb 48 b && leb b 57
 
-unfoldable pub areDigits : List ℕ → Bool
-areDigits [] = true
-areDigits (b ∷ more) = isDigit b && areDigits more
+unfoldable pub are_digits : List ℕ → Bool
+are_digits [] = true
+are_digits (b ∷ more) = is_digit b && are_digits more
 
 -- the number that digits say behind those that say v
 unfoldable pub value : ℕ → List ℕ → ℕ
@@ -26,6 +26,6 @@ abbrev pub decimal : ℕ → List ℕ
 decimal n = digits n n
 
 -- with a minus where it is below zero
-abbrev pub signedDecimal : ℤ → List ℕ
-signedDecimal (pos n) = decimal n
-signedDecimal (negsuc n) = 45 ∷ decimal (suc n)
+abbrev pub signed_decimal : ℤ → List ℕ
+signed_decimal (pos n) = decimal n
+signed_decimal (negsuc n) = 45 ∷ decimal (suc n)

@@ -22,17 +22,17 @@ largest S t (suc m) = elim (leb (suc m * suc m * S) t) [ true ↦ suc m | false 
 unfoldable pub size_of : ℕ → ℤ → ℕ
 size_of S n = largest S (square n * 2 ^ 30) 32768
 
-abbrev pub isNegative : ℤ → Bool
-isNegative (pos n) = false
-isNegative (negsuc n) = true
+abbrev pub is_negative : ℤ → Bool
+is_negative (pos n) = false
+is_negative (negsuc n) = true
 
 -- the size is m/32768 and the sign is n's; zero gives +0
 unfoldable pub component : ℕ → ℤ → Float
-component S n = round binary32 (isNegative n) (size_of S n) 32768
+component S n = round binary32 (is_negative n) (size_of S n) 32768
 
 -- refusal 30 if all are zero or one lies outside -1023 to 1023
-unfoldable pub permittedNormal : ℤ → ℤ → ℤ → Bool
-permittedNormal x y z =
+unfoldable pub permitted_normal : ℤ → ℤ → ℤ → Bool
+permitted_normal x y z =
     not (eqb (squares x y z) 0)
     && (between (negsuc 1022) x (pos 1023) && (between (negsuc 1022) y (pos 1023) && between (negsuc 1022) z (pos 1023)))
 
@@ -42,7 +42,7 @@ light x y z =
     record { x = component S x; y = component S y; z = component S z }
 
 unfoldable pub display : ℤ → ℤ → ℤ → Display
-display x y z = elim (permittedNormal x y z) [ true ↦ Lit (light x y z) | false ↦ Unlit 30 ]
+display x y z = elim (permitted_normal x y z) [ true ↦ Lit (light x y z) | false ↦ Unlit 30 ]
 
 pub record DisplayPromise (x y z : ℤ) (r : Display) : Type 0 where
   pub is : r ≡ display x y z

@@ -11,12 +11,12 @@ use Rattle.rules.specs.declared.Lean.TheVariants.{Known, Unknown}
 use Rattle.rules.specs.declared.Firm.{Firm}
 use Rattle.rules.specs.declared.Firm.TheVariants.{Stands, Refused as FirmRefused}
 use Rattle.rules.specs.Vectors.{vector, ◌⊕◌, ◌⊖◌, minus, scale, dot, lay, origin}
-use Rattle.rules.specs.Solids.{between, permittedWedge, filledWedge, inBox, look}
+use Rattle.rules.specs.Solids.{between, permitted_wedge, filled_wedge, in_box, look}
 use Rattle.rules.specs.Asked.{after, ◌>>=◌}
-use Rattle.rules.specs.Walk.{ensure, sign, signs, seen, asked, powersFrom, powers, triangle, units, allLevel, keep, only, takesPart, lookAt, facing}
-use Rattle.rules.specs.Pick.{isInside, placing}
-use Rattle.rules.specs.Lean.{squared, longest, spread, last, lastPower, bound_at, within, measurable, leanOf}
-use Rattle.rules.specs.Firm.{footing, stands, allStand, firmFrom, held, startUnder, firmUnder, firm, firmAnswer, firmOf}
+use Rattle.rules.specs.Walk.{ensure, sign, signs, seen, asked, powers_from, powers, triangle, units, all_level, keep, only, takes_part, look_at, facing}
+use Rattle.rules.specs.Pick.{is_inside, placing}
+use Rattle.rules.specs.Lean.{squared, longest, spread, last, last_power, bound_at, within, measurable, lean_of}
+use Rattle.rules.specs.Firm.{footing, stands, all_stand, firm_from, held, start_under, firm_under, firm, firm_answer, firm_of}
 
 -- an answer: its normal, triangle vectors and apex; a refused one
 data Handed : Type 0 where
@@ -32,7 +32,7 @@ data Case : Type 0 where
   on : ℤ → ℤ → ℤ → ℤ → Handed → ℤ → ℤ → Case
 
 run : Case → Lean × Firm
-run (on a b c h handed frame reach) = (leanOf (pick_of handed) reach, firmOf (IsWedge (record { a = a; b = b; c = c; h = h })) [] (pick_of handed) frame reach)
+run (on a b c h handed frame reach) = (lean_of (pick_of handed) reach, firm_of (IsWedge (record { a = a; b = b; c = c; h = h })) [] (pick_of handed) frame reach)
 
 -- part and whole of the bound at the last power; F, the looks and the whole at F
 known : ℕ → ℕ → ℕ → ℕ → ℕ → Lean × Firm
@@ -117,5 +117,5 @@ footing-cases : map run (
     ∷ refused 6 192 6 (at 50) 2
     ∷ known 6 64 1 10 1
     ∷ []
-unfolding pick_of run known refused unknown at W1 W6 W8 ones footing stands allStand firmFrom held startUnder firmUnder firm firmAnswer firmOf squared longest spread last lastPower bound_at within measurable leanOf ◌⊕◌ ◌⊖◌ minus scale dot lay between permittedWedge filledWedge inBox look after ◌>>=◌ ensure sign signs seen asked powersFrom powers allLevel keep only takesPart lookAt facing isInside placing
+unfolding pick_of run known refused unknown at W1 W6 W8 ones footing stands all_stand firm_from held start_under firm_under firm firm_answer firm_of squared longest spread last last_power bound_at within measurable lean_of ◌⊕◌ ◌⊖◌ minus scale dot lay between permitted_wedge filled_wedge in_box look after ◌>>=◌ ensure sign signs seen asked powers_from powers all_level keep only takes_part look_at facing is_inside placing
 footing-cases = refl

@@ -14,7 +14,7 @@ use Rattle.rules.specs.declared.Lean.{Lean}
 use Rattle.rules.specs.declared.Lean.TheVariants.{Known, Unknown}
 use Rattle.rules.specs.Vectors.{dot}
 use Rattle.rules.specs.Solids.{between}
-use Rattle.rules.specs.Walk.{powers, allAxes, way, levels, level, allLevel, only, takesPart}
+use Rattle.rules.specs.Walk.{powers, all_axes, way, levels, level, all_level, only, takes_part}
 
 -- an axis is level exactly if the normal's part along it is 0
 abbrev pub is_zero : ℤ → Bool
@@ -22,8 +22,8 @@ is_zero (pos zero) = true
 is_zero (pos (suc k)) = false
 is_zero (negsuc k) = false
 
-abbrev pub levelsOf : Vector → Levels
-levelsOf n = levels (is_zero n.x) (is_zero n.y) (is_zero n.z)
+abbrev pub levels_of : Vector → Levels
+levels_of n = levels (is_zero n.x) (is_zero n.y) (is_zero n.z)
 
 -- ---- the spread S
 -- the squared length
@@ -41,7 +41,7 @@ longest m (x ∷ xs) = max (squared (way m x)) (longest m xs)
 
 -- that of the sides between remaining corners, and 1 for each level axis
 unfoldable pub spread : Levels → Triangle → ℕ
-spread v m = longest m (only (takesPart v) sides) + length (only (level v) allAxes)
+spread v m = longest m (only (takes_part v) sides) + length (only (level v) all_axes)
 
 -- ---- the last power L
 unfoldable pub last : List ℕ → ℕ
@@ -49,12 +49,12 @@ last [] = 0
 last (l ∷ []) = l
 last (l ∷ k ∷ ks) = last (k ∷ ks)
 
-unfoldable pub lastPower : ℕ → ℕ
-lastPower R = last (powers R)
+unfoldable pub last_power : ℕ → ℕ
+last_power R = last (powers R)
 
 -- ---- the bound at a power: the squared sine of the lean is below 3S / (power²·(n·n))
 unfoldable pub bound_at : ℕ → AcceptedPick → Bound
-bound_at power a = record { part = 3 * spread (levelsOf a.normal) a.triangle; whole = power * power * squared a.normal }
+bound_at power a = record { part = 3 * spread (levels_of a.normal) a.triangle; whole = power * power * squared a.normal }
 
 -- ---- refusal 35: a refused pick, a reach outside 1 to 256, a part of the normal beyond 256 or of a vector beyond 2,046 in size, or a normal of zeros
 unfoldable pub within : ℕ → Vector → Bool
@@ -65,13 +65,13 @@ measurable a =
     within 256 a.normal
     && (within 2046 a.triangle.m0
     && (within 2046 a.triangle.m1
-    && (within 2046 a.triangle.m2 && not (allLevel (levelsOf a.normal)))))
+    && (within 2046 a.triangle.m2 && not (all_level (levels_of a.normal)))))
 
 -- at the last power of the reach that the pick was asked with
-unfoldable pub leanOf : Pick → ℤ → Lean
-leanOf (Accepted a) reach = elim (between (pos 1) reach (pos 256) && measurable a) [ true ↦ Known (bound_at (lastPower (nat_abs reach)) a) | false ↦ Unknown 35 ]
-leanOf (Refused r) reach = Unknown 35
+unfoldable pub lean_of : Pick → ℤ → Lean
+lean_of (Accepted a) reach = elim (between (pos 1) reach (pos 256) && measurable a) [ true ↦ Known (bound_at (last_power (nat_abs reach)) a) | false ↦ Unknown 35 ]
+lean_of (Refused r) reach = Unknown 35
 
 -- ---- the promise
 pub record LeanPromise (pick : Pick) (reach : ℤ) (r : Lean) : Type 0 where
-  pub is : r ≡ leanOf pick reach
+  pub is : r ≡ lean_of pick reach

@@ -5,8 +5,8 @@ use Rattle.rules.specs.declared.Reading.{Reading}
 use Rattle.rules.specs.declared.Reading.TheVariants.{Read, Unread}
 use Rattle.rules.specs.declared.Writing.{Writing}
 use Rattle.rules.specs.declared.Writing.TheVariants.{Written, Unwritten}
-use Rattle.rules.specs.Solids.{rowBytes, sliceBytes, stackBytes, permittedStack}
-use Rattle.rules.specs.Decimals.{isDigit, decimal}
+use Rattle.rules.specs.Solids.{row_bytes, slice_bytes, stack_bytes, permitted_stack}
+use Rattle.rules.specs.Decimals.{is_digit, decimal}
 
 -- what is read or judged: a value, or a refusal with its number and the number returned
 pub data Judged (A : Type 0) : Type 0 where
@@ -41,43 +41,43 @@ abbrev pub magic : List ℕ
 magic = 80 ∷ 52 ∷ []
 
 -- CR, LF
-unfoldable pub isEnd : ℕ → Bool
-isEnd b = eqb b 13 || eqb b 10
+unfoldable pub is_end : ℕ → Bool
+is_end b = eqb b 13 || eqb b 10
 
 -- White space is space, TAB, CR, LF
-unfoldable pub isWhite : ℕ → Bool
-isWhite b = eqb b 32 || (eqb b 9 || isEnd b)
+unfoldable pub is_white : ℕ → Bool
+is_white b = eqb b 32 || (eqb b 9 || is_end b)
 
 -- a comment, in bytes that begin with its # at place `at`: through the next CR or LF, and the place past that.
 -- One that never ends is refused where the bytes end
-unfoldable pub commentAt : List ℕ → ℕ → Judged ℕ
-commentAt [] at = wrong 22 at
-commentAt (b ∷ bs) at = elim (isEnd b) [ true ↦ good (at + 1) | false ↦ commentAt bs (at + 1) ]
+unfoldable pub comment_at : List ℕ → ℕ → Judged ℕ
+comment_at [] at = wrong 22 at
+comment_at (b ∷ bs) at = elim (is_end b) [ true ↦ good (at + 1) | false ↦ comment_at bs (at + 1) ]
 
 -- the white space required at a place, and the place past it: one white space byte or, by document 02's 2026-02,
 -- a comment that begins there, whose line end counts as that byte
 unfoldable pub white : List ℕ → ℕ → Judged ℕ
-white s at = elim (isWhite (get_or s at 0)) [
+white s at = elim (is_white (get_or s at 0)) [
   | true ↦ good (at + 1)
   | false ↦ do
     judge (eqb (get_or s at 0) 35) 22 at
-    commentAt (drop at s) at
+    comment_at (drop at s) at
 ]
 
 -- any mix of white space and comments, in bytes that begin at place `at`: the place past it.
 -- A comment runs from # through the next CR or LF; the first argument says whether one is open
 unfoldable pub mix : Bool → List ℕ → ℕ → ℕ
 mix comment [] at = at
-mix true (b ∷ bs) at = mix (not (isEnd b)) bs (at + 1)
-mix false (b ∷ bs) at = elim (isWhite b) [
+mix true (b ∷ bs) at = mix (not (is_end b)) bs (at + 1)
+mix false (b ∷ bs) at = elim (is_white b) [
   | true ↦ mix false bs (at + 1)
   | false ↦ elim (eqb b 35) [ true ↦ mix true bs (at + 1) | false ↦ at ]
 ]
 
 -- Numbers are decimal digits; leading zeros may stand: the value of the digits at the front, after those of value v, and the place past them
-unfoldable pub digitsAt : ℕ → List ℕ → ℕ → ℕ × ℕ
-digitsAt v [] at = (v, at)
-digitsAt v (b ∷ bs) at = elim (isDigit b) [ true ↦ digitsAt (v * 10 + (b - 48)) bs (at + 1) | false ↦ (v, at) ]
+unfoldable pub digits_at : ℕ → List ℕ → ℕ → ℕ × ℕ
+digits_at v [] at = (v, at)
+digits_at v (b ∷ bs) at = elim (is_digit b) [ true ↦ digits_at (v * 10 + (b - 48)) bs (at + 1) | false ↦ (v, at) ]
 
 pub record Field : Type 0 where
   pub value : ℕ
@@ -88,7 +88,7 @@ pub record Field : Type 0 where
 unfoldable pub field_at : ℕ → ℕ → List ℕ → ℕ → Judged Field
 field_at most number s at =
     let first = mix false (drop at s) at in
-    let digits = digitsAt 0 (drop first s) first in do
+    let digits = digits_at 0 (drop first s) first in do
       judge (ltb first digits.1) 22 first
       next ← white s digits.1
       judge (leb 1 digits.0 && leb digits.0 most) number first
@@ -112,7 +112,7 @@ header_at s at = do
 
 -- the bits that pad a row
 unfoldable pub padding : ℕ → ℕ
-padding width = rowBytes width * 8 - width
+padding width = row_bytes width * 8 - width
 
 -- a row's last byte: the highest bit is leftmost, so its lowest bits pad
 unfoldable pub cut : ℕ → ℕ → ℕ
@@ -120,33 +120,33 @@ cut width b = b / 2 ^ padding width * 2 ^ padding width
 
 -- the row at the front of some bytes
 unfoldable pub row : ℕ → List ℕ → List ℕ
-row width bytes = let last = rowBytes width - 1 in take last bytes ++ (cut width (get_or bytes last 0) ∷ [])
+row width bytes = let last = row_bytes width - 1 in take last bytes ++ (cut width (get_or bytes last 0) ∷ [])
 
 -- so many rows
 unfoldable pub rows : ℕ → ℕ → List ℕ → List ℕ
 rows zero width bytes = []
-rows (suc more) width bytes = row width bytes ++ rows more width (drop (rowBytes width) bytes)
+rows (suc more) width bytes = row width bytes ++ rows more width (drop (row_bytes width) bytes)
 
 -- ---- A stack is 1 to 256 images of equal size, nothing between or after them
 
 -- the image at a place, in a stack whose first has this width and height: the place of its rows
-unfoldable pub imageAt : ℕ → ℕ → List ℕ → ℕ → Judged ℕ
-imageAt width height s at = do
+unfoldable pub image_at : ℕ → ℕ → List ℕ → ℕ → Judged ℕ
+image_at width height s at = do
   header ← header_at s at
   judge (eqb header.width width && eqb header.height height) 24 at
-  judge (leb (header.next + sliceBytes width height) (length s)) 25 (length s)
+  judge (leb (header.next + slice_bytes width height) (length s)) 25 (length s)
   good header.next
 
 -- how many images follow and their rows, if `left` more are allowed
-unfoldable pub imagesAt : ℕ → ℕ → ℕ → List ℕ → ℕ → Judged (ℕ × List ℕ)
-imagesAt zero width height s at = do
+unfoldable pub images_at : ℕ → ℕ → ℕ → List ℕ → ℕ → Judged (ℕ × List ℕ)
+images_at zero width height s at = do
   judge (eqb at (length s)) 26 at
   good (0, [])
-imagesAt (suc left) width height s at = elim (eqb at (length s)) [
+images_at (suc left) width height s at = elim (eqb at (length s)) [
   | true ↦ good (0, [])
   | false ↦ do
-    place ← imageAt width height s at
-    more ← imagesAt left width height s (place + sliceBytes width height)
+    place ← image_at width height s at
+    more ← images_at left width height s (place + slice_bytes width height)
     good (suc more.0, rows height width (drop place s) ++ more.1)
 ]
 
@@ -161,28 +161,28 @@ pub record Contents : Type 0 where
 unfoldable pub contents : List ℕ → Judged Contents
 contents s = do
   first ← header_at s 0
-  images ← imagesAt 256 first.width first.height s 0
+  images ← images_at 256 first.width first.height s 0
   good (record { stack = sizes first.width first.height images.0; bytes = images.1 })
 
 -- the reader, lent so many bytes: their number is judged last
 unfoldable pub reading : List ℕ → ℕ → Judged Contents
 reading s lent = do
   found ← contents s
-  judge (leb (stackBytes found.stack) lent) 27 (stackBytes found.stack)
+  judge (leb (stack_bytes found.stack) lent) 27 (stack_bytes found.stack)
   good found
 
 -- ---- The plain form
 
 -- "P4", LF, width, space, height, LF without leading zeros
-unfoldable pub plainHeader : ℕ → ℕ → List ℕ
-plainHeader width height = magic ++ (10 ∷ (decimal width ++ (32 ∷ (decimal height ++ (10 ∷ [])))))
+unfoldable pub plain_header : ℕ → ℕ → List ℕ
+plain_header width height = magic ++ (10 ∷ (decimal width ++ (32 ∷ (decimal height ++ (10 ∷ [])))))
 
 -- per slice, then the rows, padding zero
 unfoldable pub slices : ℕ → ℕ → ℕ → List ℕ → List ℕ
 slices zero width height bytes = []
 slices (suc more) width height bytes =
-    plainHeader width height
-    ++ (rows height width bytes ++ slices more width height (drop (sliceBytes width height) bytes))
+    plain_header width height
+    ++ (rows height width bytes ++ slices more width height (drop (slice_bytes width height) bytes))
 
 unfoldable pub plain : Stack → List ℕ → List ℕ
 plain k bytes = slices (nat_abs k.depth) (nat_abs k.width) (nat_abs k.height) bytes
@@ -190,21 +190,21 @@ plain k bytes = slices (nat_abs k.depth) (nat_abs k.width) (nat_abs k.height) by
 -- the writer refuses 3, then 27
 unfoldable pub writing : Stack → List ℕ → ℕ → Judged (List ℕ)
 writing k bytes lent = do
-  judge (permittedStack k bytes) 3 0
+  judge (permitted_stack k bytes) 3 0
   judge (leb (length (plain k bytes)) lent) 27 (length (plain k bytes))
   good (plain k bytes)
 
 -- ---- Their answers, and the lent buffer afterwards
 
 -- the three sizes
-unfoldable pub readAnswer : Judged Contents → Reading
-readAnswer (good found) = Read found.stack
-readAnswer (wrong number place) = Unread number place
+unfoldable pub read_answer : Judged Contents → Reading
+read_answer (good found) = Read found.stack
+read_answer (wrong number place) = Unread number place
 
 -- the number of bytes written
-unfoldable pub writeAnswer : Judged (List ℕ) → Writing
-writeAnswer (good bytes) = Written (length bytes)
-writeAnswer (wrong number place) = Unwritten number place
+unfoldable pub write_answer : Judged (List ℕ) → Writing
+write_answer (good bytes) = Written (length bytes)
+write_answer (wrong number place) = Unwritten number place
 
 -- what is given goes to the front, and bytes behind keep their values; a refusal writes nothing
 unfoldable pub stored : {A : Type 0} → (A → List ℕ) → Judged A → List ℕ → List ℕ
@@ -212,9 +212,9 @@ stored bytes (good a) out = bytes a ++ drop (length (bytes a)) out
 stored bytes (wrong number place) out = out
 
 pub record ReadPromise (input before after : List ℕ) (r : Reading) : Type 0 where
-  pub answers : r ≡ readAnswer (reading input (length before))
+  pub answers : r ≡ read_answer (reading input (length before))
   pub leaves : after ≡ stored (λ found. found.bytes) (reading input (length before)) before
 
 pub record WritePromise (k : Stack) (bytes before after : List ℕ) (r : Writing) : Type 0 where
-  pub answers : r ≡ writeAnswer (writing k bytes (length before))
+  pub answers : r ≡ write_answer (writing k bytes (length before))
   pub leaves : after ≡ stored (λ written. written) (writing k bytes (length before)) before

@@ -16,27 +16,27 @@ use Rattle.rules.specs.declared.Pick.TheVariants.{Accepted, Refused}
 use Rattle.rules.specs.Vectors.{◌⊕◌, origin}
 use Rattle.rules.specs.Solids.{between, permitted, look}
 use Rattle.rules.specs.Asked.{Asked, answered, refused, ◌>>=◌, ◌>>◌}
-use Rattle.rules.specs.Walk.{Stop, stop, ensure, signs, powers, Found, Probe, start, toTheEnd}
+use Rattle.rules.specs.Walk.{Stop, stop, ensure, signs, powers, Found, Probe, start, to_the_end}
 
 -- in the box, as the look has it
-unfoldable pub isInside : Look → Bool
-isInside Filled = true
-isInside Empty = true
-isInside Outside = false
+unfoldable pub is_inside : Look → Bool
+is_inside Filled = true
+is_inside Empty = true
+is_inside Outside = false
 
 -- what a walk from the apex q is about: s is the three signs
-abbrev pub probeFrom : (Vector → Look) → Vector → ℤ → ℤ → Probe
-probeFrom look q frame reach = record { look = look; apex = q; signs = signs (nat_abs frame); powers = powers (nat_abs reach) }
+abbrev pub probe_from : (Vector → Look) → Vector → ℤ → ℤ → Probe
+probe_from look q frame reach = record { look = look; apex = q; signs = signs (nat_abs frame); powers = powers (nat_abs reach) }
 
 -- the apex is q = p + s
 abbrev pub probe : (Vector → Look) → Vector → ℤ → ℤ → Probe
-probe look p frame reach = probeFrom look (p ⊕ signs (nat_abs frame)) frame reach
+probe look p frame reach = probe_from look (p ⊕ signs (nat_abs frame)) frame reach
 
 -- refusal 4: p outside the box, else q outside it
 unfoldable pub placing : Probe → Vector → Asked Stop (Unit {0})
 placing c p = do
-  ensure (isInside (c.look p)) (stop 4 p 0)
-  ensure (isInside (c.look c.apex)) (stop 4 c.apex 0)
+  ensure (is_inside (c.look p)) (stop 4 p 0)
+  ensure (is_inside (c.look c.apex)) (stop 4 c.apex 0)
 
 -- the inputs are judged: whether the solid is permitted, what the walk is about and its start p
 unfoldable pub judging : Bool → Probe → Vector → ℤ → ℤ → Asked Stop (Unit {0})
@@ -61,18 +61,18 @@ module _ (permitted : Bool) (look : Vector → Look) (p : Vector) (frame reach :
   unfoldable pub pick : Asked Stop Found
   pick = do
     v ← check
-    toTheEnd c (nat_abs reach) v
+    to_the_end c (nat_abs reach) v
 
 -- the answer's two cases: accepted with its record, or refused with number, place and counts
-abbrev pub acceptedAnswer : Found → ℕ → AcceptedPick
-acceptedAnswer f looks = record { normal = f.normal; triangle = f.triangle; apex = f.apex; steps = f.steps; looks = looks }
+abbrev pub accepted_answer : Found → ℕ → AcceptedPick
+accepted_answer f looks = record { normal = f.normal; triangle = f.triangle; apex = f.apex; steps = f.steps; looks = looks }
 
-abbrev pub refusedAnswer : Stop → ℕ → RefusedPick
-refusedAnswer r looks = record { number = r.number; place = r.place; steps = r.steps; looks = looks }
+abbrev pub refused_answer : Stop → ℕ → RefusedPick
+refused_answer r looks = record { number = r.number; place = r.place; steps = r.steps; looks = looks }
 
 unfoldable pub answer : Asked Stop Found → Pick
-answer (answered f t) = Accepted (acceptedAnswer f (length t))
-answer (refused r t) = Refused (refusedAnswer r (length t))
+answer (answered f t) = Accepted (accepted_answer f (length t))
+answer (refused r t) = Refused (refused_answer r (length t))
 
 -- a pick of a solid with its lent bytes
 unfoldable pub pick_of : Solid → List ℕ → Vector → ℤ → ℤ → Pick

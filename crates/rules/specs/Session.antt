@@ -14,11 +14,11 @@ use Rattle.rules.specs.declared.Line.TheVariants.{Asks, OtherForm}
 use Rattle.rules.specs.Vectors.{vector}
 use Rattle.rules.specs.Solids.{between}
 use Rattle.rules.specs.Pick.{pick_of}
-use Rattle.rules.specs.Decimals.{areDigits, value, signedDecimal}
+use Rattle.rules.specs.Decimals.{are_digits, value, signed_decimal}
 
 -- ---- It reads at most 65,536 bytes; what follows is not read, and a line cut there is judged by the bytes that were read
-abbrev pub bytesRead : List ℕ → List ℕ
-bytesRead input = take 65536 input
+abbrev pub bytes_read : List ℕ → List ℕ
+bytes_read input = take 65536 input
 
 -- the parts of a text between its marks, one part begun; `last` says what stands behind the last mark
 unfoldable pub parts : (List ℕ → List (List ℕ)) → ℕ → List ℕ → List ℕ → List (List ℕ)
@@ -29,12 +29,12 @@ parts last mark begun (b ∷ more) = elim (eqb b mark) [
 ]
 
 -- a last line without LF counts if not empty
-abbrev pub ifNotEmpty : List ℕ → List (List ℕ)
-ifNotEmpty [] = []
-ifNotEmpty (b ∷ more) = (b ∷ more) ∷ []
+abbrev pub if_not_empty : List ℕ → List (List ℕ)
+if_not_empty [] = []
+if_not_empty (b ∷ more) = (b ∷ more) ∷ []
 
 abbrev pub lines : List ℕ → List (List ℕ)
-lines text = parts ifNotEmpty 10 [] text
+lines text = parts if_not_empty 10 [] text
 
 -- ---- A line is nine whole numbers parted by single spaces
 abbrev pub always : List ℕ → List (List ℕ)
@@ -44,8 +44,8 @@ abbrev pub fields : List ℕ → List (List ℕ)
 fields line = parts always 32 [] line
 
 -- 1 to 10 digits
-unfoldable pub fewDigits : List ℕ → Bool
-fewDigits part = leb 1 (length part) && (leb (length part) 10 && areDigits part)
+unfoldable pub few_digits : List ℕ → Bool
+few_digits part = leb 1 (length part) && (leb (length part) 10 && are_digits part)
 
 -- within 32 signed bits
 unfoldable pub within32 : ℤ → Number
@@ -53,7 +53,7 @@ within32 z = elim (between (negsuc 2147483647) z (pos 2147483647)) [ true ↦ Wh
 
 -- a number is an optional minus and 1 to 10 digits
 unfoldable pub signed : (ℕ → ℤ) → List ℕ → Number
-signed sign part = elim (fewDigits part) [ true ↦ within32 (sign (value 0 part)) | false ↦ NoNumber ]
+signed sign part = elim (few_digits part) [ true ↦ within32 (sign (value 0 part)) | false ↦ NoNumber ]
 
 abbrev pub minus : ℕ → ℤ
 minus n = neg_ℤ (pos n)
@@ -62,31 +62,31 @@ unfoldable pub number : List ℕ → Number
 number part = elim (eqb (get_or part 0 0) 45) [ true ↦ signed minus (drop 1 part) | false ↦ signed pos part ]
 
 -- the first of these fields is a number: go on with it and the others
-abbrev pub ifWhole : Number → (ℤ → Line) → Line
-ifWhole (Whole z) k = k z
-ifWhole NoNumber k = OtherForm
+abbrev pub if_whole : Number → (ℤ → Line) → Line
+if_whole (Whole z) k = k z
+if_whole NoNumber k = OtherForm
 
 unfoldable pub next : List (List ℕ) → (ℤ → List (List ℕ) → Line) → Line
 next [] k = OtherForm
-next (part ∷ others) k = ifWhole (number part) (λ z. k z others)
+next (part ∷ others) k = if_whole (number part) (λ z. k z others)
 
 -- there is no field behind the ninth
-unfoldable pub onlyThese : List (List ℕ) → Line → Line
-onlyThese [] line = line
-onlyThese (part ∷ others) line = OtherForm
+unfoldable pub only_these : List (List ℕ) → Line → Line
+only_these [] line = line
+only_these (part ∷ others) line = OtherForm
 
 -- a b c h, p, frame, R
 unfoldable pub question : List ℕ → Line
 question line =
     next (fields line) λ a others. next others λ b others. next others λ c others. next others λ h others.
     next others λ x others. next others λ y others. next others λ z others. next others λ frame others. next others λ reach others.
-    onlyThese others
+    only_these others
     (Asks record { wedge = record { a = a; b = b; c = c; h = h }; p = vector x y z; frame = frame; reach = reach })
 
 -- ---- It prints one line for each: "N", normal, steps, looks; or "R", number, place, steps, looks; or "B"
 -- a number behind its space
 abbrev pub word : ℤ → List ℕ
-word z = 32 ∷ signedDecimal z
+word z = 32 ∷ signed_decimal z
 
 unfoldable pub three : Vector → List ℕ
 three v = word v.x ++ (word v.y ++ word v.z)
@@ -94,15 +94,15 @@ three v = word v.x ++ (word v.y ++ word v.z)
 unfoldable pub counts : ℕ → ℕ → List ℕ
 counts steps looks = word (pos steps) ++ (word (pos looks) ++ (10 ∷ []))
 
-unfoldable pub toldAccepted : Accepted → List ℕ
-toldAccepted a = 78 ∷ (three a.normal ++ counts a.steps a.looks)
+unfoldable pub told_accepted : Accepted → List ℕ
+told_accepted a = 78 ∷ (three a.normal ++ counts a.steps a.looks)
 
-unfoldable pub toldRefused : Refused → List ℕ
-toldRefused r = 82 ∷ (word (pos r.number) ++ (three r.place ++ counts r.steps r.looks))
+unfoldable pub told_refused : Refused → List ℕ
+told_refused r = 82 ∷ (word (pos r.number) ++ (three r.place ++ counts r.steps r.looks))
 
 unfoldable pub told : Pick → List ℕ
-told (IsAccepted a) = toldAccepted a
-told (IsRefused r) = toldRefused r
+told (IsAccepted a) = told_accepted a
+told (IsRefused r) = told_refused r
 
 -- "B" for a line of another form
 unfoldable pub reply : Line → List ℕ
@@ -114,7 +114,7 @@ replies [] = []
 replies (line ∷ others) = reply (question line) ++ replies others
 
 unfoldable pub session : List ℕ → List ℕ
-session input = replies (lines (bytesRead input))
+session input = replies (lines (bytes_read input))
 
 -- ---- the promise: what is printed stands at the front of the lent output, bytes behind keep their values, and the answer counts them
 pub record SessionPromise (input before after : List ℕ) (count : ℕ) : Type 0 where

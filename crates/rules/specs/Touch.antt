@@ -13,12 +13,12 @@ use Rattle.rules.specs.declared.Touch.{Touch}
 use Rattle.rules.specs.declared.Touch.TheVariants.{Guess, Refused as TouchRefused}
 use Rattle.rules.specs.Solids.{permitted, look}
 use Rattle.rules.specs.Asked.{Asked, ◌>>=◌, ◌>>◌}
-use Rattle.rules.specs.Walk.{Stop, Probe, atPowers, Found, quickStart, toTheEnd}
+use Rattle.rules.specs.Walk.{Stop, Probe, at_powers, Found, quick_start, to_the_end}
 use Rattle.rules.specs.Pick.{probe, judging, answer}
 
 -- a direction falls only if power 1 is filled
 abbrev pub nearer : Probe → Probe
-nearer = atPowers (1 ∷ [])
+nearer = at_powers (1 ∷ [])
 
 -- over any solid: whether it is permitted, and its look
 module _ (permitted : Bool) (look : Vector → Look) (p : Vector) (frame reach : ℤ) where
@@ -29,8 +29,8 @@ module _ (permitted : Bool) (look : Vector → Look) (p : Vector) (frame reach :
   unfoldable pub touch : Asked Stop Found
   touch = do
     judging permitted (probe look p frame reach) p frame reach
-    v ← quickStart c p
-    toTheEnd c (nat_abs reach) v
+    v ← quick_start c p
+    to_the_end c (nat_abs reach) v
 
 -- its accepted answer is always marked a guess
 unfoldable pub marked : Pick → Touch

@@ -48,19 +48,19 @@ asked steps (answered a t) = answered a t
 asked steps (refused p t) = refused (stop 8 p steps) t
 
 -- ---- The powers are 1, 2, 4, .. up to the first that is at least R. From l on; theorem `powers-reach`: the first argument never runs out before that one
-unfoldable pub powersFrom : ℕ → ℕ → ℕ → List ℕ
-powersFrom zero l R = l ∷ []
-powersFrom (suc fuel) l R = l ∷ (elim (leb R l) [ true ↦ [] | false ↦ powersFrom fuel (l + l) R ])
+unfoldable pub powers_from : ℕ → ℕ → ℕ → List ℕ
+powers_from zero l R = l ∷ []
+powers_from (suc fuel) l R = l ∷ (elim (leb R l) [ true ↦ [] | false ↦ powers_from fuel (l + l) R ])
 
 unfoldable pub powers : ℕ → List ℕ
-powers R = powersFrom R 1 R
+powers R = powers_from R 1 R
 
 -- ---- the axes and the triangle vectors, one for each axis
 pub data Axis : Type 0 where
   axis0 axis1 axis2 : Axis
 
-abbrev pub allAxes : List Axis
-allAxes = axis0 ∷ axis1 ∷ axis2 ∷ []
+abbrev pub all_axes : List Axis
+all_axes = axis0 ∷ axis1 ∷ axis2 ∷ []
 
 abbrev pub unit : Axis → Vector
 unit axis0 = unit0
@@ -74,16 +74,16 @@ abbrev pub units : Triangle
 units = triangle unit0 unit1 unit2
 
 -- m_k
-abbrev pub vectorOf : Triangle → Axis → Vector
-vectorOf m axis0 = m.m0
-vectorOf m axis1 = m.m1
-vectorOf m axis2 = m.m2
+abbrev pub vector_of : Triangle → Axis → Vector
+vector_of m axis0 = m.m0
+vector_of m axis1 = m.m1
+vector_of m axis2 = m.m2
 
 -- the triangle with a in that place
-abbrev pub withVector : Triangle → Axis → Vector → Triangle
-withVector m axis0 a = triangle a m.m1 m.m2
-withVector m axis1 a = triangle m.m0 a m.m2
-withVector m axis2 a = triangle m.m0 m.m1 a
+abbrev pub with_vector : Triangle → Axis → Vector → Triangle
+with_vector m axis0 a = triangle a m.m1 m.m2
+with_vector m axis1 a = triangle m.m0 a m.m2
+with_vector m axis2 a = triangle m.m0 m.m1 a
 
 -- ---- the six pairs (k, l) in the order in which they are asked
 abbrev pub pairs : List Pair
@@ -109,10 +109,10 @@ to P21 = axis1
 
 -- m_k and m_l
 abbrev pub first : Triangle → Pair → Vector
-first m x = vectorOf m (from x)
+first m x = vector_of m (from x)
 
 abbrev pub second : Triangle → Pair → Vector
-second m x = vectorOf m (to x)
+second m x = vector_of m (to x)
 
 -- m_l - m_k, of which a pair asks whether it falls
 abbrev pub way : Triangle → Pair → Vector
@@ -120,7 +120,7 @@ way m x = second m x ⊖ first m x
 
 -- the triangle with a in the place of m_k
 abbrev pub with : Triangle → Pair → Vector → Triangle
-with m x a = withVector m (from x) a
+with m x a = with_vector m (from x) a
 
 -- a step: replace m_k by m_k - m_l
 abbrev pub step : Triangle → Pair → Triangle
@@ -140,11 +140,11 @@ level v axis1 = v.y
 level v axis2 = v.z
 
 -- no axis
-abbrev pub noneLevel : Levels
-noneLevel = levels false false false
+abbrev pub none_level : Levels
+none_level = levels false false false
 
-unfoldable pub allLevel : Levels → Bool
-allLevel v = level v axis0 && (level v axis1 && level v axis2)
+unfoldable pub all_level : Levels → Bool
+all_level v = level v axis0 && (level v axis1 && level v axis2)
 
 -- a list with one more, if a test holds of it
 unfoldable pub keep : {A : Type 0} → Bool → A → List A → List A
@@ -158,19 +158,19 @@ only test (x ∷ xs) = keep (test x) x (only test xs)
 
 -- the remaining axes
 unfoldable pub remaining : Levels → List Axis
-remaining v = only (λ k. not (level v k)) allAxes
+remaining v = only (λ k. not (level v k)) all_axes
 
 -- a level axis takes no part in the pairs
-unfoldable pub takesPart : Levels → Pair → Bool
-takesPart v x = not (level v (from x)) && not (level v (to x))
+unfoldable pub takes_part : Levels → Pair → Bool
+takes_part v x = not (level v (from x)) && not (level v (to x))
 
 -- the component of a level axis is 0
-abbrev pub unlessLevel : Bool → ℤ → ℤ
-unlessLevel true z = pos 0
-unlessLevel false z = z
+abbrev pub unless_level : Bool → ℤ → ℤ
+unless_level true z = pos 0
+unless_level false z = z
 
 unfoldable pub levelled : Levels → Vector → Vector
-levelled v n = vector (unlessLevel v.x n.x) (unlessLevel v.y n.y) (unlessLevel v.z n.z)
+levelled v n = vector (unless_level v.x n.x) (unless_level v.y n.y) (unless_level v.z n.z)
 
 -- ---- Choice. The corners are v_k = q - m_k and the candidate of (k, l) is q + m_l - m_k, so the rows v1 - v0, v2 - v0, x - v0, y - v0 are these
 unfoldable pub determinant : Triangle → Pair → Pair → ℤ
@@ -180,30 +180,30 @@ determinant m x y = sphere (m.m0 ⊖ m.m1) (m.m0 ⊖ m.m2) (m.m0 ⊕ way m x) (m
 unfoldable pub inside : Triangle → Pair → Pair → Bool
 inside m x y = lt_z (determinant m x y) (pos 0)
 
-unfoldable pub anyInside : Triangle → Pair → List Pair → Bool
-anyInside m x [] = false
-anyInside m x (y ∷ ys) = inside m x y || anyInside m x ys
+unfoldable pub any_inside : Triangle → Pair → List Pair → Bool
+any_inside m x [] = false
+any_inside m x (y ∷ ys) = inside m x y || any_inside m x ys
 
 -- the first of xs whose sphere has no pair of falling inside
-unfoldable pub firstFree : Triangle → List Pair → List Pair → Choice
-firstFree m falling [] = Nothing
-firstFree m falling (x ∷ xs) = elim (anyInside m x falling) [ false ↦ Chosen x | true ↦ firstFree m falling xs ]
+unfoldable pub first_free : Triangle → List Pair → List Pair → Choice
+first_free m falling [] = Nothing
+first_free m falling (x ∷ xs) = elim (any_inside m x falling) [ false ↦ Chosen x | true ↦ first_free m falling xs ]
 
 -- the first falling pair whose sphere has no other falling candidate strictly inside. Nothing only if none falls, at every triangle that a walk meets: theorem `Walk-Ends`
 unfoldable pub choice : Triangle → List Pair → Choice
-choice m falling = firstFree m falling falling
+choice m falling = first_free m falling falling
 
 -- ---- the questions of one solid
 module _ (look : Vector → Look) where
-  unfoldable pub lookAt : Vector → Asked Vector Bool
-  lookAt p = seen (look p) p
+  unfoldable pub look_at : Vector → Asked Vector Bool
+  look_at p = seen (look p) p
 
   -- from q, at these powers: upward, and asking stops at the first filled one
-  unfoldable pub fallsAt : Vector → Vector → List ℕ → Asked Vector Bool
-  fallsAt q u [] = answered false []
-  fallsAt q u (l ∷ ls) = do
-    f ← lookAt (q ⊕ scale (pos l) u)
-    elim f [ true ↦ answered true [] | false ↦ fallsAt q u ls ]
+  unfoldable pub falls_at : Vector → Vector → List ℕ → Asked Vector Bool
+  falls_at q u [] = answered false []
+  falls_at q u (l ∷ ls) = do
+    f ← look_at (q ⊕ scale (pos l) u)
+    elim f [ true ↦ answered true [] | false ↦ falls_at q u ls ]
 
 -- ---- what a walk is about: a solid's look, the apex q, the signs s of the frame and the powers
 pub record Probe : Type 0 where
@@ -213,8 +213,8 @@ pub record Probe : Type 0 where
   pub powers : List ℕ
 
 -- the same at other powers
-abbrev pub atPowers : List ℕ → Probe → Probe
-atPowers ls c = record { look = c.look; apex = c.apex; signs = c.signs; powers = ls }
+abbrev pub at_powers : List ℕ → Probe → Probe
+at_powers ls c = record { look = c.look; apex = c.apex; signs = c.signs; powers = ls }
 
 -- what the walk's end returns, laid into the box
 pub record Found : Type 0 where
@@ -236,14 +236,14 @@ module _ (c : Probe) where
 
   -- a vector u, laid in, falls if q + l·u is filled for some power l. Powers are looked at upward and asking stops at the first filled one
   abbrev pub falls : Vector → Asked Vector Bool
-  falls u = fallsAt c.look q u c.powers
+  falls u = falls_at c.look q u c.powers
 
   -- 1. look at p, then, if p is filled, q
   unfoldable pub facing : Vector → Asked Stop (Unit {0})
   facing p = do
-    f ← asked 0 (lookAt c.look p)
+    f ← asked 0 (look_at c.look p)
     ensure f (stop 5 p 0)
-    g ← asked 0 (lookAt c.look q)
+    g ← asked 0 (look_at c.look q)
     ensure (not g) (stop 6 q 0)
 
   -- q less the unit vector e, laid in
@@ -251,8 +251,8 @@ module _ (c : Probe) where
   corner e = q ⊕ lay s (minus e)
 
   -- 2. ask whether minus an axis's unit vector falls. When it doesn't, its opposite is asked too: refusal 7 if that falls, else the axis is level
-  unfoldable pub isLevel : Vector → Asked Stop Bool
-  isLevel e = do
+  unfoldable pub is_level : Vector → Asked Stop Bool
+  is_level e = do
     f ← asked 0 (falls (lay s (minus e)))
     elim f [
       | true ↦ answered false []
@@ -265,10 +265,10 @@ module _ (c : Probe) where
   -- for axis 0, 1, 2; refusal 7, with the place as for axis 0, if all three are level
   unfoldable pub axes : Asked Stop Levels
   axes = do
-    x ← isLevel (unit axis0)
-    y ← isLevel (unit axis1)
-    z ← isLevel (unit axis2)
-    ensure (not (allLevel (levels x y z))) (stop 7 (corner (unit axis0)) 0)
+    x ← is_level (unit axis0)
+    y ← is_level (unit axis1)
+    z ← is_level (unit axis2)
+    ensure (not (all_level (levels x y z))) (stop 7 (corner (unit axis0)) 0)
     answered (levels x y z) []
 
   -- 1 and 2: which axes are level
@@ -278,24 +278,24 @@ module _ (c : Probe) where
     axes
 
   -- 2026-04, in the place of 2: the corners of these unit vectors must be filled, lowest first
-  unfoldable pub cornersFilled : List Vector → Asked Stop (Unit {0})
-  cornersFilled [] = answered tt []
-  cornersFilled (e ∷ es) = do
-    f ← asked 0 (lookAt c.look (corner e))
+  unfoldable pub corners_filled : List Vector → Asked Stop (Unit {0})
+  corners_filled [] = answered tt []
+  corners_filled (e ∷ es) = do
+    f ← asked 0 (look_at c.look (corner e))
     ensure f (stop 11 (corner e) 0)
-    cornersFilled es
+    corners_filled es
 
   -- for axis 0, 1, 2. The axis questions go away: no axis is level
-  unfoldable pub allCorners : Asked Stop Levels
-  allCorners = do
-    cornersFilled (unit axis0 ∷ unit axis1 ∷ unit axis2 ∷ [])
-    answered noneLevel []
+  unfoldable pub all_corners : Asked Stop Levels
+  all_corners = do
+    corners_filled (unit axis0 ∷ unit axis1 ∷ unit axis2 ∷ [])
+    answered none_level []
 
   -- 1, and the corners in the place of 2
-  unfoldable pub quickStart : Vector → Asked Stop Levels
-  quickStart p = do
+  unfoldable pub quick_start : Vector → Asked Stop Levels
+  quick_start p = do
     facing p
-    allCorners
+    all_corners
 
   -- 4. all pairs are asked, even after one has fallen
   unfoldable pub falling : Triangle → List Pair → Asked Vector (List Pair)
@@ -330,7 +330,7 @@ module _ (c : Probe) where
   module _ (R : ℕ) (v : Levels) where
     -- 3. begin with the unit vectors and zero steps; as many steps are allowed as the reach less the number of remaining axes, none if that is below zero
     unfoldable pub rounds : Asked Stop (Triangle × ℕ)
-    rounds = walk (only (takesPart v) pairs) (R - length (remaining v)) 0 units
+    rounds = walk (only (takes_part v) pairs) (R - length (remaining v)) 0 units
 
     -- the end: refusal 10, or what was found
     unfoldable pub end : Triangle × ℕ → Asked Stop Found
@@ -339,7 +339,7 @@ module _ (c : Probe) where
       answered (found v e) []
 
     -- the rounds, then the end
-    abbrev pub toTheEnd : Asked Stop Found
-    toTheEnd = do
+    abbrev pub to_the_end : Asked Stop Found
+    to_the_end = do
       e ← rounds
       end e

@@ -7,7 +7,7 @@ use native.Mathlib.Nat.{le_refl}
 use native.Mathlib.Omega.{arith}
 use lib.ListN.{length, drop, length-append, length-take, length-drop, drop_of_length-le}
 use lib.Seq.{sets}
-use Rattle.rules.specs.Session.{parts, ifNotEmpty, lines, question, reply, replies}
+use Rattle.rules.specs.Session.{parts, if_not_empty, lines, question, reply, replies}
 use Rattle.text.specs.Puts.{sets-append, put-length}
 use Rattle.line.specs.Reading.{stretch, PartEnds}
 use Rattle.answer.specs.Wrote.{Wrote}
@@ -29,13 +29,13 @@ record Next (text : List ℕ) (from : ℕ) (line : List ℕ) (behind : ℕ) : Ty
   within : behind ≤ length text
   covers : length line ≤ behind - from
 
-kept : (line : List ℕ) → 1 ≤ length line → ifNotEmpty line ≡ line ∷ []
+kept : (line : List ℕ) → 1 ≤ length line → if_not_empty line ≡ line ∷ []
 kept [] h = absurd (omega arith)
 kept (b ∷ more) h = refl
 
 no_lines : (text : List ℕ) (from : ℕ) → length text ≤ from → lines (drop from text) ≡ []
 unfolding parts
-no_lines text from h = ap (parts ifNotEmpty 10 []) (drop_of_length-le text h)
+no_lines text from h = ap (parts if_not_empty 10 []) (drop_of_length-le text h)
 
 long : (text : List ℕ) (from end : ℕ) → end ≤ length text → length (stretch text from end) ≡ end - from
 long text from end h = simp (length-take, length-drop) (omega arith)
@@ -45,7 +45,7 @@ module _ {text : List ℕ} {from end : ℕ} (F : PartEnds text from 10 end) wher
   to-mark h =
       let g = F.from in
       let n = long text from end F.within in
-      record { split = F.at_mark h ifNotEmpty; forward = omega arith; within = omega arith; covers = omega arith }
+      record { split = F.at_mark h if_not_empty; forward = omega arith; within = omega arith; covers = omega arith }
 
   -- a last line without LF counts if not empty
   to_end : length text ≤ end → from < length text → Next text from (stretch text from (length text)) (length text)
@@ -55,8 +55,8 @@ module _ {text : List ℕ} {from end : ℕ} (F : PartEnds text from 10 end) wher
       let n = long text from (length text) (le_refl (length text)) in
       record {
         split =
-            F.at-end h ifNotEmpty
-            ∙ ap (λ (z : ℕ). ifNotEmpty (stretch text from z)) e
+            F.at-end h if_not_empty
+            ∙ ap (λ (z : ℕ). if_not_empty (stretch text from z)) e
             ∙ kept (stretch text from (length text)) (omega arith)
             ∙ ap (λ (ls : List (List ℕ)). stretch text from (length text) ∷ ls) (sym (no_lines text (length text) (le_refl (length text))));
         forward = k;

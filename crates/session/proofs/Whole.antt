@@ -6,12 +6,12 @@ use native.Mathlib.Nat.{zero-add}
 use native.Mathlib.Omega.{arith}
 use lib.ListN.{length, take, drop, length-take}
 use lib.Seq.{sets, sets-eq, take_all}
-use Rattle.rules.specs.Session.{bytesRead, lines, replies, session}
+use Rattle.rules.specs.Session.{bytes_read, lines, replies, session}
 use Rattle.answer.specs.Wrote.{Wrote}
 use Rattle.session.specs.Printing.{Enough, Ran}
 
 -- what was written for the bytes read is the session
-ran : {input text before after : List ℕ} {count : ℕ} → text ≡ bytesRead input → 5 * length text ≤ length before
+ran : {input text before after : List ℕ} {count : ℕ} → text ≡ bytes_read input → 5 * length text ≤ length before
     → Wrote (5 * length text) before 0 (replies (lines text)) after count → Ran input before after count
 unfolding session
 ran {input} {before} e room W =

@@ -7,7 +7,7 @@ use Rattle.rules.specs.declared.Number.TheVariants.{Whole, NoNumber}
 use Rattle.rules.specs.declared.Question.{Question}
 use Rattle.rules.specs.declared.Line.{Line}
 use Rattle.rules.specs.declared.Line.TheVariants.{Asks, OtherForm}
-use Rattle.rules.specs.Session.{parts, always, fewDigits, signed, number, ifWhole, next, question}
+use Rattle.rules.specs.Session.{parts, always, few_digits, signed, number, if_whole, next, question}
 
 weigh : List (List ℕ) → ℕ
 weigh [] = 0
@@ -34,12 +34,12 @@ other-form : {A : Type 0} {q : Question} → OtherForm ≡ Asks q → A
 other-form e = let z : ◌≡◌ {A = ℕ} 0 1 = cc in absurd (omega arith)
 
 reads : (fs : List (List ℕ)) (k : ℤ → List (List ℕ) → Line) (q : Question) → next fs k ≡ Asks q → Read fs k q
-unfolding next weigh number signed fewDigits
+unfolding next weigh number signed few_digits
 reads [] k q e = other-form e
 reads ([] ∷ others) k q e = other-form e
 reads ((b ∷ more) ∷ others) k q e = by (number (b ∷ more)) e
   where
-    by : (n : Number) → ifWhole n (λ z. k z others) ≡ Asks q → Read ((b ∷ more) ∷ others) k q
+    by : (n : Number) → if_whole n (λ z. k z others) ≡ Asks q → Read ((b ∷ more) ∷ others) k q
     by (Whole z) h = record { z = z; others = others; goes = h; lighter = omega arith }
     by NoNumber h = other-form h
 

@@ -4,7 +4,7 @@ use Rattle.rules.specs.declared.Question.{Question}
 use Rattle.rules.specs.declared.Pick.{Pick}
 use Rattle.rules.specs.declared.Solid.TheVariants.{Wedge as IsWedge}
 use Rattle.rules.specs.Pick.{pick_of}
-use Rattle.rules.specs.Session.{question, reply, bytesRead, SessionPromise}
+use Rattle.rules.specs.Session.{question, reply, bytes_read, SessionPromise}
 use Rattle.answer.specs.Wrote.{Wrote}
 
 pub record Answers (q : Question) (a : Pick) : Type 0 where
@@ -27,4 +27,4 @@ pub record Enough (out text : List ℕ) : Type 0 where
 -- the whole session's promise, and a bound on what it prints
 pub record Ran (input before after : List ℕ) (count : ℕ) : Type 0 where
   pub promise : SessionPromise input before after count
-  pub bound : count ≤ 5 * length (bytesRead input)
+  pub bound : count ≤ 5 * length (bytes_read input)

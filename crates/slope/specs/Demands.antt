@@ -13,16 +13,16 @@ use Rattle.rules.specs.declared.Refused.{Refused as RefusedPick}
 use Rattle.rules.specs.declared.Pick.{Pick}
 use Rattle.rules.specs.declared.Pick.TheVariants.{Accepted, Refused}
 use Rattle.rules.specs.Vectors.{vector, ◌⊕◌, scale, dot, lay, size, origin}
-use Rattle.rules.specs.Solids.{between, permitted, box, inBox, filled, look}
-use Rattle.rules.specs.Walk.{signs, powers, Probe, Axis, unit, vectorOf, level, remaining}
+use Rattle.rules.specs.Solids.{between, permitted, box, in_box, filled, look}
+use Rattle.rules.specs.Walk.{signs, powers, Probe, Axis, unit, vector_of, level, remaining}
 use Rattle.rules.specs.Pick.{probe, pick_of, WedgePromise, StackPromise}
-use Rattle.rules.specs.Lean.{levelsOf}
+use Rattle.rules.specs.Lean.{levels_of}
 use Rattle.laws.specs.Tests.{Each}
 use Rattle.laws.specs.Parts.{NonNegative}
 use Rattle.laws.specs.Generators.{Combines, generators}
 use Rattle.laws.specs.Next.{NextLook}
-use Rattle.laws.specs.Answers.{stopOf}
-use Rattle.slope.specs.Stair.{stair, stairBytes}
+use Rattle.laws.specs.Answers.{stop_of}
+use Rattle.slope.specs.Stair.{stair, stair_bytes}
 
 -- ---- document 01, "Inputs": a solid (with its lent bytes), a start p, a frame number, a reach R
 pub record Inputs : Type 0 where
@@ -32,71 +32,71 @@ pub record Inputs : Type 0 where
   pub frame : ℤ
   pub reach : ℤ
 
-abbrev pub signsOf : Inputs → Vector
-signsOf i = signs (nat_abs i.frame)
+abbrev pub signs_of : Inputs → Vector
+signs_of i = signs (nat_abs i.frame)
 
-abbrev pub apexOf : Inputs → Vector
-apexOf i = i.start ⊕ signsOf i
+abbrev pub apex_of : Inputs → Vector
+apex_of i = i.start ⊕ signs_of i
 
 -- what the walk is about
-abbrev pub probeAt : Inputs → Probe
-probeAt i = probe (look i.solid i.bytes) i.start i.frame i.reach
+abbrev pub probe_at : Inputs → Probe
+probe_at i = probe (look i.solid i.bytes) i.start i.frame i.reach
 
 -- K, the number of powers
-abbrev pub powersOf : Inputs → ℕ
-powersOf i = length (powers (nat_abs i.reach))
+abbrev pub powers_of : Inputs → ℕ
+powers_of i = length (powers (nat_abs i.reach))
 
 abbrev pub pick_at : Inputs → Pick
 pick_at i = pick_of i.solid i.bytes i.start i.frame i.reach
 
 -- ---- reach, frame and solid are permitted
 pub record Permitted (i : Inputs) : Type 0 where
-  pub permittedReach : T (between (pos 1) i.reach (pos 256))
-  pub permittedFrame : T (between (pos 0) i.frame (pos 7))
-  pub permittedSolid : T (permitted i.solid i.bytes)
+  pub permitted_reach : T (between (pos 1) i.reach (pos 256))
+  pub permitted_frame : T (between (pos 0) i.frame (pos 7))
+  pub permitted_solid : T (permitted i.solid i.bytes)
 
 -- r, the number of remaining axes: those along which n has a part
-abbrev pub remainingOf : Vector → ℕ
-remainingOf n = length (remaining (levelsOf n))
+abbrev pub remaining_of : Vector → ℕ
+remaining_of n = length (remaining (levels_of n))
 
 -- n has no component against the frame (in the frame none is below 0), is not all zero and has no common divisor;
 -- w, the sum of their sizes, is at most the reach
 pub record Direction (n : Vector) (i : Inputs) : Type 0 where
-  pub signed : NonNegative (lay (signsOf i) n)
-  pub notAllZero : n ≡ origin → ⊥
-  pub noCommonDivisor : (d : ℤ) (u : Vector) → pos 1 ≤ℤ d → n ≡ scale d u → d ≡ pos 1
-  pub withinReach : pos (size n) ≤ℤ i.reach
+  pub signed : NonNegative (lay (signs_of i) n)
+  pub not_all_zero : n ≡ origin → ⊥
+  pub no_common_divisor : (d : ℤ) (u : Vector) → pos 1 ≤ℤ d → n ≡ scale d u → d ≡ pos 1
+  pub within_reach : pos (size n) ≤ℤ i.reach
 
 -- the start is filled, the apex is in the box and empty
 pub record Touched (i : Inputs) : Type 0 where
-  pub startFilled : look i.solid i.bytes i.start ≡ Filled
-  pub apexEmpty : look i.solid i.bytes (apexOf i) ≡ Empty
+  pub start_filled : look i.solid i.bytes i.start ≡ Filled
+  pub apex_empty : look i.solid i.bytes (apex_of i) ≡ Empty
 
 -- what the demand assumes. The filled voxels of the box are exactly those with n·v < t
 pub record OnSlope (n : Vector) (t : ℤ) (i : Inputs) : Type 0 where
   pub permitted : Permitted i
   pub direction : Direction n i
-  pub filledBelow : (v : Vector) → T (inBox (box i.solid) v) → filled i.solid i.bytes v ≡ lt_z (dot n v) t
+  pub filled_below : (v : Vector) → T (in_box (box i.solid) v) → filled i.solid i.bytes v ≡ lt_z (dot n v) t
   pub touched : Touched i
 
 -- ---- what it asks of one pick
 -- accepted with normal n, after at most w less the remaining axes in steps and 2 + K(6w + 6) looks; the vectors of level axes stay the unit vectors, laid in;
 -- the generating set, the level vectors and the sides between the other corners, lies in the plane, and every whole vector of the plane is a whole combination of it
 pub record AcceptedWith (n : Vector) (i : Inputs) (a : AcceptedPick) : Type 0 where
-  pub isNormal : a.normal ≡ n
-  pub fewSteps : a.steps ≤ size n - remainingOf n
-  pub fewLooks : a.looks ≤ 2 + powersOf i * (6 * size n + 6)
+  pub is_normal : a.normal ≡ n
+  pub few_steps : a.steps ≤ size n - remaining_of n
+  pub few_looks : a.looks ≤ 2 + powers_of i * (6 * size n + 6)
   -- at most 6 - r + r(r - 1)(w + 1 - r) for each power: 5, 2w + 2 and 6w - 9 for one, two and three remaining axes. Each is reached, with w = r: `NotEmpty`
-  pub fewestLooks : a.looks ≤ 2 + powersOf i * (6 - remainingOf n + remainingOf n * (remainingOf n - 1) * (size n + 1 - remainingOf n))
-  pub stays : (k : Axis) → T (level (levelsOf n) k) → vectorOf a.triangle k ≡ lay (signsOf i) (unit k)
-  pub inPlane : Each (λ g. dot n g ≡ pos 0) (generators (levelsOf n) a.triangle)
-  pub generated : (v : Vector) → dot n v ≡ pos 0 → Combines (generators (levelsOf n) a.triangle) v
+  pub fewest_looks : a.looks ≤ 2 + powers_of i * (6 - remaining_of n + remaining_of n * (remaining_of n - 1) * (size n + 1 - remaining_of n))
+  pub stays : (k : Axis) → T (level (levels_of n) k) → vector_of a.triangle k ≡ lay (signs_of i) (unit k)
+  pub in_plane : Each (λ g. dot n g ≡ pos 0) (generators (levels_of n) a.triangle)
+  pub generated : (v : Vector) → dot n v ≡ pos 0 → Combines (generators (levels_of n) a.triangle) v
 
 -- refused with 8, at the voxel that was to be looked at next: a power times minus a unit vector, a unit vector (an opposite) or a way of the triangle reached, from the apex; it lies outside the box
 pub record RefusedOutside (i : Inputs) (r : RefusedPick) : Type 0 where
-  pub isEight : r.number ≡ 8
-  pub next : NextLook (probeAt i) (stopOf r)
-  pub outside : T (not (inBox (box i.solid) r.place))
+  pub is_eight : r.number ≡ 8
+  pub next : NextLook (probe_at i) (stop_of r)
+  pub outside : T (not (in_box (box i.solid) r.place))
 
 -- one of the two, nothing else
 abbrev pub OneOf : (AcceptedPick → Type 0) → (RefusedPick → Type 0) → Pick → Type 0
@@ -113,31 +113,31 @@ pub record Same (a b : AcceptedPick) : Type 0 where
   pub steps : a.steps ≡ b.steps
 
 -- ---- the two entry points
-abbrev pub ofWedge : Wedge → Vector → ℤ → ℤ → Inputs
-ofWedge wedge p frame reach = record { solid = IsWedge wedge; bytes = []; start = p; frame = frame; reach = reach }
+abbrev pub of_wedge : Wedge → Vector → ℤ → ℤ → Inputs
+of_wedge wedge p frame reach = record { solid = IsWedge wedge; bytes = []; start = p; frame = frame; reach = reach }
 
-abbrev pub ofStack : Stack → List ℕ → Vector → ℤ → ℤ → Inputs
-ofStack stack bytes p frame reach = record { solid = IsStack stack; bytes = bytes; start = p; frame = frame; reach = reach }
+abbrev pub of_stack : Stack → List ℕ → Vector → ℤ → ℤ → Inputs
+of_stack stack bytes p frame reach = record { solid = IsStack stack; bytes = bytes; start = p; frame = frame; reach = reach }
 
 -- a wedge whose a, b, c are g times n; its h is any that is permitted
 pub record OnWedge (g : ℤ) (n : Vector) (wedge : Wedge) (p : Vector) (frame reach : ℤ) : Type 0 where
-  pub permitted : Permitted (ofWedge wedge p frame reach)
-  pub direction : Direction n (ofWedge wedge p frame reach)
-  pub atLeastOnce : pos 1 ≤ℤ g
+  pub permitted : Permitted (of_wedge wedge p frame reach)
+  pub direction : Direction n (of_wedge wedge p frame reach)
+  pub at_least_once : pos 1 ≤ℤ g
   pub multiple : vector wedge.a wedge.b wedge.c ≡ scale g n
-  pub touched : Touched (ofWedge wedge p frame reach)
+  pub touched : Touched (of_wedge wedge p frame reach)
 
 -- ---- the demand
 pub record Demand3 : Type 0 where
-  pub onePick : (n : Vector) (t : ℤ) (i : Inputs) → OnSlope n t i → Demanded n i (pick_at i)
+  pub one_pick : (n : Vector) (t : ℤ) (i : Inputs) → OnSlope n t i → Demanded n i (pick_at i)
   -- any two solids, starts and reaches, in one frame; the offsets may differ too
-  pub twoPicks : (n : Vector) (t u : ℤ) (i j : Inputs) → OnSlope n t i → OnSlope n u j → i.frame ≡ j.frame → (a b : AcceptedPick) → pick_at i ≡ Accepted a → pick_at j ≡ Accepted b → Same a b
+  pub two_picks : (n : Vector) (t u : ℤ) (i j : Inputs) → OnSlope n t i → OnSlope n u j → i.frame ≡ j.frame → (a b : AcceptedPick) → pick_at i ≡ Accepted a → pick_at j ≡ Accepted b → Same a b
   -- an inspector's test wedge is a slope, common divisor or not, so both hold of it; and of what the entry points promise
-  pub wedgeSlope : (g : ℤ) (n : Vector) (wedge : Wedge) (p : Vector) (frame reach : ℤ) → OnWedge g n wedge p frame reach → (t : ℤ) × OnSlope n t (ofWedge wedge p frame reach)
-  pub wedgePick : (g : ℤ) (n : Vector) (wedge : Wedge) (p : Vector) (frame reach : ℤ) → OnWedge g n wedge p frame reach
-      → (r : Pick) → WedgePromise wedge p frame reach r → Demanded n (ofWedge wedge p frame reach) r
-  pub stackPick : (n : Vector) (t : ℤ) (stack : Stack) (bytes : List ℕ) (p : Vector) (frame reach : ℤ) → OnSlope n t (ofStack stack bytes p frame reach)
-      → (r : Pick) → StackPromise stack bytes p frame reach r → Demanded n (ofStack stack bytes p frame reach) r
+  pub wedge_slope : (g : ℤ) (n : Vector) (wedge : Wedge) (p : Vector) (frame reach : ℤ) → OnWedge g n wedge p frame reach → (t : ℤ) × OnSlope n t (of_wedge wedge p frame reach)
+  pub wedge_pick : (g : ℤ) (n : Vector) (wedge : Wedge) (p : Vector) (frame reach : ℤ) → OnWedge g n wedge p frame reach
+      → (r : Pick) → WedgePromise wedge p frame reach r → Demanded n (of_wedge wedge p frame reach) r
+  pub stack_pick : (n : Vector) (t : ℤ) (stack : Stack) (bytes : List ℕ) (p : Vector) (frame reach : ℤ) → OnSlope n t (of_stack stack bytes p frame reach)
+      → (r : Pick) → StackPromise stack bytes p frame reach r → Demanded n (of_stack stack bytes p frame reach) r
 
 -- ---- not empty: what is assumed holds of W1, W2, W6, W8, of a wedge with a common divisor and of a stack, and the answer is the normal;
 -- it holds of W7, and the answer is 8; the bound on the looks is reached for each number of remaining axes; and two frames may have two triangles
@@ -146,41 +146,41 @@ at k = vector (pos k) (pos k) (pos k)
 
 -- a line of the wedge program: a b c h, p, frame, R
 abbrev pub line : ℤ → ℤ → ℤ → ℤ → Vector → ℤ → ℤ → Inputs
-line a b c h p frame reach = ofWedge (record { a = a; b = b; c = c; h = h }) p frame reach
+line a b c h p frame reach = of_wedge (record { a = a; b = b; c = c; h = h }) p frame reach
 
 pub record Accepts (n : Vector) (t : ℤ) (i : Inputs) (steps looks : ℕ) : Type 0 where
-  pub onSlope : OnSlope n t i
+  pub on_slope : OnSlope n t i
   pub answer : AcceptedPick
   pub is : pick_at i ≡ Accepted answer
-  pub isNormal : answer.normal ≡ n
-  pub stepsAre : answer.steps ≡ steps
-  pub looksAre : answer.looks ≡ looks
+  pub is_normal : answer.normal ≡ n
+  pub steps_are : answer.steps ≡ steps
+  pub looks_are : answer.looks ≡ looks
 
 pub record Refuses (n : Vector) (t : ℤ) (i : Inputs) : Type 0 where
-  pub onSlope : OnSlope n t i
+  pub on_slope : OnSlope n t i
   pub answer : RefusedPick
   pub is : pick_at i ≡ Refused answer
-  pub isEight : answer.number ≡ 8
+  pub is_eight : answer.number ≡ 8
 
 -- the most looks on the slope of n, with the reach R
-abbrev pub fewestOf : Vector → ℕ → ℕ
-fewestOf n R = 2 + length (powers R) * (6 - remainingOf n + remainingOf n * (remainingOf n - 1) * (size n + 1 - remainingOf n))
+abbrev pub fewest_of : Vector → ℕ → ℕ
+fewest_of n R = 2 + length (powers R) * (6 - remaining_of n + remaining_of n * (remaining_of n - 1) * (size n + 1 - remaining_of n))
 
 pub record NotEmpty : Type 0 where
   pub W1 : Accepts (vector (pos 1) (pos 2) (pos 5)) (pos 808) (line (pos 1) (pos 2) (pos 5) (pos 808) (at 100) (pos 0) (pos 8)) 5 116
   pub W2 : Accepts (vector (pos 1) (pos 2) (pos 5)) (pos 801) (line (pos 1) (pos 2) (pos 5) (pos 801) (at 100) (pos 0) (pos 8)) 5 144
   pub W8 : Accepts (vector (negsuc 0) (pos 2) (pos 5)) (pos 608) (line (negsuc 0) (pos 2) (pos 5) (pos 608) (at 100) (pos 1) (pos 8)) 5 116
   -- 1615/2 rounded up is 808, so this is W1's slope
-  pub twiceW1 : OnWedge (pos 2) (vector (pos 1) (pos 2) (pos 5)) (record { a = pos 2; b = pos 4; c = pos 10; h = pos 1615 }) (at 100) (pos 0) (pos 8)
-  pub twiceW1Accepts : Accepts (vector (pos 1) (pos 2) (pos 5)) (pos 808) (line (pos 2) (pos 4) (pos 10) (pos 1615) (at 100) (pos 0) (pos 8)) 5 116
-  pub on_stack : Accepts (at 1) (pos 12) (ofStack stair stairBytes (at 3) (pos 0) (pos 3)) 0 23
+  pub twice_w1 : OnWedge (pos 2) (vector (pos 1) (pos 2) (pos 5)) (record { a = pos 2; b = pos 4; c = pos 10; h = pos 1615 }) (at 100) (pos 0) (pos 8)
+  pub twice_w1_accepts : Accepts (vector (pos 1) (pos 2) (pos 5)) (pos 808) (line (pos 2) (pos 4) (pos 10) (pos 1615) (at 100) (pos 0) (pos 8)) 5 116
+  pub on_stack : Accepts (at 1) (pos 12) (of_stack stair stair_bytes (at 3) (pos 0) (pos 3)) 0 23
   pub W7 : Refuses (at 1) (pos 3) (line (pos 1) (pos 1) (pos 1) (pos 3) (at 0) (pos 0) (pos 3))
   -- all the looks allowed, with three remaining axes, two, and one at reach 1
-  pub allThree : Accepts (at 1) (pos 301) (line (pos 1) (pos 1) (pos 1) (pos 301) (at 100) (pos 0) (pos 3)) 0 (fewestOf (at 1) 3)
-  pub allTwo : Accepts (vector (pos 0) (pos 1) (pos 1)) (pos 201) (line (pos 0) (pos 1) (pos 1) (pos 201) (at 100) (pos 0) (pos 2)) 0 (fewestOf (vector (pos 0) (pos 1) (pos 1)) 2)
-  pub allOne : Accepts (vector (pos 0) (pos 0) (pos 1)) (pos 101) (line (pos 0) (pos 0) (pos 1) (pos 101) (at 100) (pos 0) (pos 1)) 0 (fewestOf (vector (pos 0) (pos 0) (pos 1)) 1)
-  pub allowed : (fewestOf (at 1) 3 ≡ 29) × (fewestOf (vector (pos 0) (pos 1) (pos 1)) 2 ≡ 14) × (fewestOf (vector (pos 0) (pos 0) (pos 1)) 1 ≡ 7)
+  pub all_three : Accepts (at 1) (pos 301) (line (pos 1) (pos 1) (pos 1) (pos 301) (at 100) (pos 0) (pos 3)) 0 (fewest_of (at 1) 3)
+  pub all_two : Accepts (vector (pos 0) (pos 1) (pos 1)) (pos 201) (line (pos 0) (pos 1) (pos 1) (pos 201) (at 100) (pos 0) (pos 2)) 0 (fewest_of (vector (pos 0) (pos 1) (pos 1)) 2)
+  pub all_one : Accepts (vector (pos 0) (pos 0) (pos 1)) (pos 101) (line (pos 0) (pos 0) (pos 1) (pos 101) (at 100) (pos 0) (pos 1)) 0 (fewest_of (vector (pos 0) (pos 0) (pos 1)) 1)
+  pub allowed : (fewest_of (at 1) 3 ≡ 29) × (fewest_of (vector (pos 0) (pos 1) (pos 1)) 2 ≡ 14) × (fewest_of (vector (pos 0) (pos 0) (pos 1)) 1 ≡ 7)
   -- W6, and W6 in frame 1: a level vector has its frame's sign
   pub W6 : Accepts (vector (pos 0) (pos 1) (pos 1)) (pos 202) (line (pos 0) (pos 1) (pos 1) (pos 202) (at 100) (pos 0) (pos 8)) 0 20
   pub W6Turned : Accepts (vector (pos 0) (pos 1) (pos 1)) (pos 202) (line (pos 0) (pos 1) (pos 1) (pos 202) (at 100) (pos 1) (pos 8)) 0 20
-  pub trianglesDiffer : W6.answer.triangle ≡ W6Turned.answer.triangle → ⊥
+  pub triangles_differ : W6.answer.triangle ≡ W6Turned.answer.triangle → ⊥

@@ -11,10 +11,10 @@ use Rattle.rules.specs.declared.Triangle.{Triangle}
 use Rattle.rules.specs.declared.Pair.{Pair}
 use Rattle.rules.specs.declared.Pair.TheVariants.{P01, P02, P10, P12, P20, P21}
 use Rattle.rules.specs.Vectors.{scale, dot}
-use Rattle.rules.specs.Walk.{Axis, axis0, axis1, axis2, vectorOf, from, to, first, second, level, takesPart, levelled, normal}
+use Rattle.rules.specs.Walk.{Axis, axis0, axis1, axis2, vector_of, from, to, first, second, level, takes_part, levelled, normal}
 use Rattle.laws.specs.Parts.{dot-difference, scale_one}
 use Rattle.laws.specs.Triples.{all_of, crosses, combined, equal-products}
-use Rattle.laws.specs.Flat.{Lies, raised, isOne, product, raised-dot, raised-same, raised-way, level-dot, levelled-raised, scaled-products}
+use Rattle.laws.specs.Flat.{Lies, raised, is_one, product, raised-dot, raised-same, raised-way, level-dot, levelled-raised, scaled-products}
 use Rattle.slope.specs.Ideal.{Even}
 
 -- two axes are the same, or a pair's
@@ -37,22 +37,22 @@ by_level : (b : Bool) (z a : ℤ) → (T b → z ≡ pos 0) → (T (not b) → z
 by_level true z a p q = p tt ∙ byring (a ∷ []) (search sides depth 40 fits 5000) tt
 by_level false z a p q = q tt ∙ byring (a ∷ []) (search sides depth 40 fits 5000) tt
 
-one_more : (b : Bool) → pos 1 *ℤ product b +ℤ isOne b ≡ pos 1
+one_more : (b : Bool) → pos 1 *ℤ product b +ℤ is_one b ≡ pos 1
 one_more true = refl
 one_more false = refl
 
 module _ (N : Vector) (v : Levels) (lies : Lies v N) (m : Triangle) (even : Even (raised v N) v m) where
   abbrev height : Axis → ℤ
-  height k = dot N (vectorOf m k)
+  height k = dot N (vector_of m k)
 
   abbrev remains : Axis → Type 0
   remains k = T (not (level v k))
 
-  not-higher : (x : Pair) → T (takesPart v x) → dot N (first m x) ≤ℤ dot N (second m x)
+  not-higher : (x : Pair) → T (takes_part v x) → dot N (first m x) ≤ℤ dot N (second m x)
   not-higher x h = ordered _ _ (rw (raised-way v m even.upright.flat N lies x h, dot-difference N (second m x) (first m x)) at (even.none x h))
 
   at_most : (k l : Axis) → remains k → remains l → height k ≤ℤ height l
-  unfolding takesPart
+  unfolding takes_part
   at_most k l h j = go (joined k l)
     where
       go : (k ≡ l) ⊎ ((x : Pair) × (from x ≡ k) × (to x ≡ l)) → height k ≤ℤ height l
@@ -63,21 +63,21 @@ module _ (N : Vector) (v : Levels) (lies : Lies v N) (m : Triangle) (even : Even
 
   -- a is the height of a remaining axis k
   module _ (k : Axis) (r : remains k) where
-    pub at-least-1 : pos 1 ≤ℤ dot N (vectorOf m k)
+    pub at-least-1 : pos 1 ≤ℤ dot N (vector_of m k)
     at-least-1 = rw (← raised-same v m even.upright.flat N lies k r) (all_of even.upright.high k)
 
     height-is : (l : Axis) → height l ≡ height k *ℤ product (level v l)
     height-is l = by_level (level v l) (height l) (height k) (level-dot v m even.upright.flat N lies l) (λ j. let a = at_most k l r j in let b = at_most l k j r in omega (arith, parts))
 
     -- N is a times a whole vector
-    pub multiple : N ≡ scale (dot N (vectorOf m k)) (combined (crosses m) (product v.x) (product v.y) (product v.z))
+    pub multiple : N ≡ scale (dot N (vector_of m k)) (combined (crosses m) (product v.x) (product v.y) (product v.z))
     multiple = scaled-products N m (height k) (λ l. product (level v l)) even.upright.unimodular height-is
 
-    pub is_normal : dot N (vectorOf m k) ≡ pos 1 → levelled v (normal m) ≡ N
+    pub is_normal : dot N (vector_of m k) ≡ pos 1 → levelled v (normal m) ≡ N
     is_normal one = ap (levelled v) (sym raised_is) ∙ levelled-raised v N lies
       where
-        all_one : (l : Axis) → dot (raised v N) (vectorOf m l) ≡ pos 1
-        all_one l = raised-dot v m even.upright.flat N lies l ∙ ap (λ z. z +ℤ isOne (level v l)) (height-is l ∙ ap (λ z. z *ℤ product (level v l)) one) ∙ one_more (level v l)
+        all_one : (l : Axis) → dot (raised v N) (vector_of m l) ≡ pos 1
+        all_one l = raised-dot v m even.upright.flat N lies l ∙ ap (λ z. z +ℤ is_one (level v l)) (height-is l ∙ ap (λ z. z *ℤ product (level v l)) one) ∙ one_more (level v l)
 
         raised_is : raised v N ≡ normal m
         raised_is =

@@ -18,33 +18,33 @@ use Rattle.rules.specs.declared.Pair.{Pair}
 use Rattle.rules.specs.declared.Choice.{Choice}
 use Rattle.rules.specs.declared.Choice.TheVariants.{Nothing, Chosen}
 use Rattle.rules.specs.Vectors.{◌⊖◌, dot, lay, size}
-use Rattle.rules.specs.Walk.{Axis, axis0, axis1, axis2, vectorOf, withVector, pairs, from, first, second, way, step, units, choice, only, remaining, takesPart}
-use Rattle.rules.specs.Lean.{levelsOf}
+use Rattle.rules.specs.Walk.{Axis, axis0, axis1, axis2, vector_of, with_vector, pairs, from, first, second, way, step, units, choice, only, remaining, takes_part}
+use Rattle.rules.specs.Lean.{levels_of}
 use Rattle.laws.specs.Only.{each-both-of, only-holds, only-each, only_none, each_member, taking-in}
 use Rattle.laws.specs.Parts.{dot-difference}
-use Rattle.laws.specs.Triples.{All, all_first, all-second, all-with, detOf, step-det}
+use Rattle.laws.specs.Triples.{All, all_first, all-second, all-with, det_of, step-det}
 use Rattle.laws.specs.Flat.{Flat, raised, step-flat}
 use Rattle.laws.specs.Choosing.{Chose, choice-is, choice-exists}
 
 module _ (n : Vector) (v : Levels) where
   -- ---- the walk
-  abbrev isDown : Triangle → Pair → Bool
-  isDown m x = lt_z (dot n (way m x)) (pos 0)
+  abbrev is_down : Triangle → Pair → Bool
+  is_down m x = lt_z (dot n (way m x)) (pos 0)
 
   abbrev pub downs : Triangle → List Pair → List Pair
   downs m = only (λ x. lt_z (dot n (way m x)) (pos 0))
 
-  unfoldable pub idealRound : Triangle → Choice
-  idealRound m = choice m (downs m (only (takesPart v) pairs))
+  unfoldable pub ideal_round : Triangle → Choice
+  ideal_round m = choice m (downs m (only (takes_part v) pairs))
 
   -- at most r steps, from m with k steps done
   unfoldable pub ideal : ℕ → ℕ → Triangle → Triangle × ℕ
   ideal zero k m = (m, k)
-  ideal (suc r) k m = elim (idealRound m) [ Nothing ↦ (m, k) | Chosen x ↦ ideal r (suc k) (step m x) ]
+  ideal (suc r) k m = elim (ideal_round m) [ Nothing ↦ (m, k) | Chosen x ↦ ideal r (suc k) (step m x) ]
 
   -- ---- what every step keeps
   pub record Upright (m : Triangle) : Type 0 where
-    pub unimodular : detOf m ≡ pos 1
+    pub unimodular : det_of m ≡ pos 1
     pub high : All (λ a. pos 1 ≤ℤ dot n a) m
     pub flat : Flat v m
 
@@ -53,7 +53,7 @@ module _ (n : Vector) (v : Levels) where
 
   -- x takes part and goes down
   pub record Down (m : Triangle) (x : Pair) : Type 0 where
-    pub takes : T (takesPart v x)
+    pub takes : T (takes_part v x)
     pub down : dot n (way m x) <ℤ pos 0
 
   new-height : (a b : Vector) → dot n (b ⊖ a) <ℤ pos 0 → pos 1 ≤ℤ dot n (a ⊖ b)
@@ -66,7 +66,7 @@ module _ (n : Vector) (v : Levels) where
   abbrev four : Triangle → Vector → List ℤ
   four m a = dot n a ∷ dot n m.m0 ∷ dot n m.m1 ∷ dot n m.m2 ∷ []
 
-  heights-with : (m : Triangle) (k : Axis) (a : Vector) → heights (withVector m k a) ≡ heights m -ℤ dot n (vectorOf m k) +ℤ dot n a
+  heights-with : (m : Triangle) (k : Axis) (a : Vector) → heights (with_vector m k a) ≡ heights m -ℤ dot n (vector_of m k) +ℤ dot n a
   heights-with m axis0 a = byring (four m a) (search sides depth 40 fits 5000) tt
   heights-with m axis1 a = byring (four m a) (search sides depth 40 fits 5000) tt
   heights-with m axis2 a = byring (four m a) (search sides depth 40 fits 5000) tt
@@ -89,25 +89,25 @@ module _ (n : Vector) (v : Levels) where
       omega (arith, parts, all-second u.high x, fact (search linear) (rw (step-heights m x) at (three (step m x) (step-upright m x u d))))
 
   -- ---- a round
-  pub round-down : (m : Triangle) → Chose (Down m) (Unit {0}) (idealRound m)
-  unfolding idealRound
+  pub round-down : (m : Triangle) → Chose (Down m) (Unit {0}) (ideal_round m)
+  unfolding ideal_round
   round-down m =
       choice-is (Down m) m (downs m ps)
-      (each-both-of (λ x. T (isDown m x)) (λ x. T (takesPart v x)) (Down m) (downs m ps) (λ x d t. record { takes = t; down = lt_z_yes d }) (only-holds (isDown m) ps) (only-each (isDown m) (λ x. T (takesPart v x)) ps (only-holds (takesPart v) pairs)))
+      (each-both-of (λ x. T (is_down m x)) (λ x. T (takes_part v x)) (Down m) (downs m ps) (λ x d t. record { takes = t; down = lt_z_yes d }) (only-holds (is_down m) ps) (only-each (is_down m) (λ x. T (takes_part v x)) ps (only-holds (takes_part v) pairs)))
     where
       ps : List Pair
-      ps = only (takesPart v) pairs
+      ps = only (takes_part v) pairs
 
   -- no pair that takes part goes down
   pub record Even (m : Triangle) : Type 0 where
     pub upright : Upright m
-    pub none : (x : Pair) → T (takesPart v x) → pos 0 ≤ℤ dot n (way m x)
+    pub none : (x : Pair) → T (takes_part v x) → pos 0 ≤ℤ dot n (way m x)
 
-  none-even : (m : Triangle) → Upright m → idealRound m ≡ Nothing → Even m
-  unfolding idealRound
+  none-even : (m : Triangle) → Upright m → ideal_round m ≡ Nothing → Even m
+  unfolding ideal_round
   none-even m u e = record {
     upright = u;
-    none = λ x t. let f = each_member (λ x. isDown m x ≡ false) x (only (takesPart v) pairs) (only_none (isDown m) (only (takesPart v) pairs) (choice-exists m u.unimodular _ e)) (taking-in v x t) in lt_z_no (rw f tt);
+    none = λ x t. let f = each_member (λ x. is_down m x ≡ false) x (only (takes_part v) pairs) (only_none (is_down m) (only (takes_part v) pairs) (choice-exists m u.unimodular _ e)) (taking-in v x t) in lt_z_no (rw f tt);
   }
 
   lowest : (m : Triangle) → Upright m → heights m ≤ℤ pos 3 → Even m
@@ -121,9 +121,9 @@ module _ (n : Vector) (v : Levels) where
   pub ideal-even : (r k : ℕ) (m : Triangle) → Upright m → heights m ≤ℤ pos (3 + r) → Even (ideal r k m).0
   unfolding ideal
   ideal-even zero k m u h = lowest m u h
-  ideal-even (suc r) k m u h = go (idealRound m) refl (λ x. ideal-even r (suc k) (step m x))
+  ideal-even (suc r) k m u h = go (ideal_round m) refl (λ x. ideal-even r (suc k) (step m x))
     where
-      go : (c : Choice) → idealRound m ≡ c → ((x : Pair) → Upright (step m x) → heights (step m x) ≤ℤ pos (3 + r) → Even (ideal r (suc k) (step m x)).0)
+      go : (c : Choice) → ideal_round m ≡ c → ((x : Pair) → Upright (step m x) → heights (step m x) ≤ℤ pos (3 + r) → Even (ideal r (suc k) (step m x)).0)
           → Even (elim c as (λ _. Triangle × ℕ) [ Nothing ↦ (m, k) | Chosen x ↦ ideal r (suc k) (step m x) ]).0
       go Nothing e f = none-even m u e
       go (Chosen x) e f = f x (step-upright m x u (rw e at (round-down m))) (step-lower m x r u h)
@@ -131,22 +131,22 @@ module _ (n : Vector) (v : Levels) where
   pub ideal-steps : (r k : ℕ) (m : Triangle) → (ideal r k m).1 ≤ k + r
   unfolding ideal
   ideal-steps zero k m = omega arith
-  ideal-steps (suc r) k m = go (idealRound m) (λ x. ideal-steps r (suc k) (step m x))
+  ideal-steps (suc r) k m = go (ideal_round m) (λ x. ideal-steps r (suc k) (step m x))
     where
       go : (c : Choice) → ((x : Pair) → (ideal r (suc k) (step m x)).1 ≤ suc k + r) → (elim c as (λ _. Triangle × ℕ) [ Nothing ↦ (m, k) | Chosen x ↦ ideal r (suc k) (step m x) ]).1 ≤ k + suc r
       go Nothing f = omega arith
       go (Chosen x) f = omega (arith, f x)
 
   -- one round of it
-  pub ideal-ends : (r k : ℕ) (m : Triangle) → Nothing ≡ idealRound m → ideal r k m ≡ (m, k)
+  pub ideal-ends : (r k : ℕ) (m : Triangle) → Nothing ≡ ideal_round m → ideal r k m ≡ (m, k)
   unfolding ideal
   ideal-ends zero k m e = refl
   ideal-ends (suc r) k m e = rw (← e, ideal)
 
-  pub ideal-goes-on : (r k : ℕ) (m : Triangle) (x : Pair) → Chosen x ≡ idealRound m → ideal (suc r) k m ≡ ideal r (suc k) (step m x)
+  pub ideal-goes-on : (r k : ℕ) (m : Triangle) (x : Pair) → Chosen x ≡ ideal_round m → ideal (suc r) k m ≡ ideal r (suc k) (step m x)
   unfolding ideal
   ideal-goes-on r k m x e = rw (← e, ideal)
 
 -- ---- the ideal walk of a slope's normal n, in the frame of signs s: with 1 along the axes where n has no part, and as many steps as its size leaves
-abbrev pub idealOf : Vector → Vector → Triangle × ℕ
-idealOf s n = ideal (raised (levelsOf n) (lay s n)) (levelsOf n) (size n - length (remaining (levelsOf n))) 0 units
+abbrev pub ideal_of : Vector → Vector → Triangle × ℕ
+ideal_of s n = ideal (raised (levels_of n) (lay s n)) (levels_of n) (size n - length (remaining (levels_of n))) 0 units

@@ -13,9 +13,9 @@ use Rattle.rules.specs.declared.Levels.{Levels}
 use Rattle.rules.specs.declared.Triangle.{Triangle}
 use Rattle.rules.specs.Vectors.{minus, dot, cross, det, lay, size}
 use Rattle.rules.specs.Solids.{between, permitted, look}
-use Rattle.rules.specs.Walk.{Stop, stop, powers, Axis, axis0, axis1, axis2, unit, units, pairs, level, allLevel, only, remaining, takesPart, levelled, normal, Probe, atPowers, axes, rounds, found}
-use Rattle.rules.specs.Pick.{isInside, pick}
-use Rattle.rules.specs.Lean.{is_zero, levelsOf}
+use Rattle.rules.specs.Walk.{Stop, stop, powers, Axis, axis0, axis1, axis2, unit, units, pairs, level, all_level, only, remaining, takes_part, levelled, normal, Probe, at_powers, axes, rounds, found}
+use Rattle.rules.specs.Pick.{is_inside, pick}
+use Rattle.rules.specs.Lean.{is_zero, levels_of}
 use Rattle.laws.specs.Tests.{is_true, is_false, is-not, not-less}
 use Rattle.laws.specs.Parts.{part, part_of, part-origin, vector-by-parts, dot-minus, dot-unit}
 use Rattle.laws.specs.Levels.{remains, remaining-count, at-most-3, pairs-taking, is-zero, not-zero, levels-of, levels-eq, all-level, lowest}
@@ -30,9 +30,9 @@ use Rattle.laws.specs.Walks.{walk-says}
 use Rattle.laws.specs.Boxes.{look-as}
 use Rattle.laws.specs.PickRule.{InputRule, PickRule, pick-by-rule}
 use Rattle.range.specs.Ranges.{between-naturals}
-use Rattle.slope.specs.Demands.{Inputs, signsOf, probeAt, powersOf, remainingOf, OnSlope}
+use Rattle.slope.specs.Demands.{Inputs, signs_of, probe_at, powers_of, remaining_of, OnSlope}
 use Rattle.slope.specs.Falls.{Near, fell-is}
-use Rattle.slope.specs.Ideal.{Upright, heights, Even, ideal-even, idealOf}
+use Rattle.slope.specs.Ideal.{Upright, heights, Even, ideal-even, ideal_of}
 use Rattle.slope.specs.Ends.{at-least-1, multiple, is_normal}
 use Rattle.slope.specs.Rounds.{Edge, edge-sideways, slope-walk}
 
@@ -65,10 +65,10 @@ remains-most false z h k = h tt
 -- ---- the pick
 module _ (n : Vector) (t : ℤ) (i : Inputs) (o : OnSlope n t i) where
   abbrev s : Vector
-  s = signsOf i
+  s = signs_of i
 
   abbrev c : Probe
-  c = probeAt i
+  c = probe_at i
 
   abbrev R : ℕ
   R = nat_abs i.reach
@@ -84,28 +84,28 @@ module _ (n : Vector) (t : ℤ) (i : Inputs) (o : OnSlope n t i) where
 
   -- the level axes, and how many remain
   abbrev v : Levels
-  v = levelsOf n
+  v = levels_of n
 
   abbrev r : ℕ
-  r = remainingOf n
+  r = remaining_of n
 
   -- the normal in the frame, with 1 along the level axes, and the end of its ideal walk
   abbrev N : Vector
-  N = lay (signsOf i) n
+  N = lay (signs_of i) n
 
   abbrev H : Vector
-  H = raised (levelsOf n) (lay (signsOf i) n)
+  H = raised (levels_of n) (lay (signs_of i) n)
 
   abbrev pub ideally : Triangle × ℕ
-  ideally = idealOf (signsOf i) n
+  ideally = ideal_of (signs_of i) n
 
   g : Signs s
   g = signs-are _
 
-  pub upward : (k : Axis) → pos 0 ≤ℤ part k (lay (signsOf i) n)
+  pub upward : (k : Axis) → pos 0 ≤ℤ part k (lay (signs_of i) n)
   upward k = part_of o.direction.signed k
 
-  pub level-is : (k : Axis) → level (levelsOf n) k ≡ is_zero (part k (lay (signsOf i) n))
+  pub level-is : (k : Axis) → level (levels_of n) k ≡ is_zero (part k (lay (signs_of i) n))
   level-is k = levels-of n k ∙ sym (lay-part-zero s n g k)
 
   lies : Lies v N
@@ -115,32 +115,32 @@ module _ (n : Vector) (t : ℤ) (i : Inputs) (o : OnSlope n t i) where
   high k h = not-zero (part k N) (sym (level-is k) ∙ is-not (level v k) h) (upward k)
 
   -- some axis remains, since n is not all zero
-  pub some : T (not (allLevel (levelsOf n)))
-  some = rw (is_false (allLevel v) (λ a. o.direction.notAllZero (vector-by-parts (λ k. is-zero (part k n) (sym (levels-of n k) ∙ is_true (level v k) (all-level v a k)) ∙ sym (part-origin k))))) tt
+  pub some : T (not (all_level (levels_of n)))
+  some = rw (is_false (all_level v) (λ a. o.direction.not_all_zero (vector-by-parts (λ k. is-zero (part k n) (sym (levels-of n k) ∙ is_true (level v k) (all-level v a k)) ∙ sym (part-origin k))))) tt
 
   sum : N.x +ℤ N.y +ℤ N.z ≡ pos w
   sum = sum-size N o.direction.signed ∙ ap pos (lay-size s n g)
 
-  pub few : remainingOf n ≤ size n
+  pub few : remaining_of n ≤ size n
   few =
       let a = atom N.x in let b = atom N.y in let c = atom N.z in
       omega (arith, parts, fact (search linear) sum, remaining-count v, remains-most v.x N.x (high axis0) (upward axis0), remains-most v.y N.y (high axis1) (upward axis1), remains-most v.z N.z (high axis2) (upward axis2))
 
   fits : w ≤ R
-  fits = omega (arith, parts, o.direction.withinReach, (between-naturals 1 256 i.reach o.permitted.permittedReach).2)
+  fits = omega (arith, parts, o.direction.within_reach, (between-naturals 1 256 i.reach o.permitted.permitted_reach).2)
 
   pub below : (v : Vector) → look i.solid i.bytes v ≡ Filled → dot n v <ℤ t
-  below v e = let f = look-as i.solid i.bytes v true e in lt_z_yes (rw (sym (o.filledBelow v f.0) ∙ f.1) tt)
+  below v e = let f = look-as i.solid i.bytes v true e in lt_z_yes (rw (sym (o.filled_below v f.0) ∙ f.1) tt)
 
   pub above : (v : Vector) → look i.solid i.bytes v ≡ Empty → t ≤ℤ dot n v
-  above v e = let f = look-as i.solid i.bytes v false e in lt_z_no (rw (sym (o.filledBelow v f.0) ∙ f.1) tt)
+  above v e = let f = look-as i.solid i.bytes v false e in lt_z_no (rw (sym (o.filled_below v f.0) ∙ f.1) tt)
 
   near : Near c n t R
   near = record {
     below = below;
     above = above;
-    low = above c.apex o.touched.apexEmpty;
-    high = rw (dot-apex s n i.start, sum) (let a = atom (dot n i.start) in let b = atom t in goal (search linear) (omega (arith, parts, below i.start o.touched.startFilled, fits)));
+    low = above c.apex o.touched.apex_empty;
+    high = rw (dot-apex s n i.start, sum) (let a = atom (dot n i.start) in let b = atom t in goal (search linear) (omega (arith, parts, below i.start o.touched.start_filled, fits)));
     reaches = up-to-reaches R 1 (powers R) (powers-reach R);
   }
 
@@ -169,21 +169,21 @@ module _ (n : Vector) (t : ℤ) (i : Inputs) (o : OnSlope n t i) where
       let low = lowest v some in let k = low.0 in
       let N-multiple = multiple N v lies ideally.0 end-even k low.1 in
       let n-multiple = sym (lay-lay s n g) ∙ ap (lay s) N-multiple ∙ lay-scale s _ _ in
-      let one = o.direction.noCommonDivisor _ _ (at-least-1 N v lies ideally.0 end-even k low.1) n-multiple in
+      let one = o.direction.no_common_divisor _ _ (at-least-1 N v lies ideally.0 end-even k low.1) n-multiple in
       ap (lay s) (is_normal N v lies ideally.0 end-even k low.1 one) ∙ lay-lay s n g
 
-  pub end_fits : T (leb (size (levelled (levelsOf n) (normal ideally.0))) (nat_abs i.reach))
+  pub end_fits : T (leb (size (levelled (levels_of n) (normal ideally.0))) (nat_abs i.reach))
   end_fits = rw (← lay-size s (levelled v (normal ideally.0)) g, end-normal) (le→leb w R fits)
 
   -- ---- the rounds, at any powers that reach the plane; F holds of refusal 8
-  pub rounds-ideal : (ls : List ℕ) (far : ℕ) → Near (atPowers ls (probeAt i)) n t far → {F : Stop → Type 0}
-      → ((k : ℕ) (m : Triangle) (p : Vector) → Reached (atPowers ls (probeAt i)) (only (takesPart (levelsOf n)) pairs) k m
-      → StoppedOf (atPowers ls (probeAt i)) m (only (takesPart (levelsOf n)) pairs) p → F (stop 8 p k))
-      → Says (Few (suc (size n - remainingOf n) * (length (only (takesPart (levelsOf n)) pairs) * length ls)) (λ e. e ≡ ideally)) (λ e l. F e) (rounds (atPowers ls (probeAt i)) (nat_abs i.reach) (levelsOf n))
+  pub rounds-ideal : (ls : List ℕ) (far : ℕ) → Near (at_powers ls (probe_at i)) n t far → {F : Stop → Type 0}
+      → ((k : ℕ) (m : Triangle) (p : Vector) → Reached (at_powers ls (probe_at i)) (only (takes_part (levels_of n)) pairs) k m
+      → StoppedOf (at_powers ls (probe_at i)) m (only (takes_part (levels_of n)) pairs) p → F (stop 8 p k))
+      → Says (Few (suc (size n - remaining_of n) * (length (only (takes_part (levels_of n)) pairs) * length ls)) (λ e. e ≡ ideally)) (λ e l. F e) (rounds (at_powers ls (probe_at i)) (nat_abs i.reach) (levels_of n))
   unfolding rounds
   rounds-ideal ls far close beyond =
       says-weaker _ (λ e l h. h) (λ e l h. h.holds)
-      (walk-says _ (only (takesPart v) pairs) (slope-walk close v lies beyond ideally) (R - r) (w - r) 0 units
+      (walk-says _ (only (takes_part v) pairs) (slope-walk close v lies beyond ideally) (R - r) (w - r) 0 units
       (record { enough = omega (arith, fits); upright = upright; lower = begin; same = refl; reached = refl }))
 
   -- ---- the axes: each is level exactly if n has no part along it
@@ -204,23 +204,23 @@ module _ (n : Vector) (t : ℤ) (i : Inputs) (o : OnSlope n t i) where
   EdgeHere = Edge c
 
   axis-rule : (k : Axis) → AxisRule c EdgeHere k
-  axis-rule k = record { eight = λ p h. record { isEight = refl; next = h }; seven = λ _ f. absurd (no-opposite k f) }
+  axis-rule k = record { eight = λ p h. record { is_eight = refl; next = h }; seven = λ _ f. absurd (no-opposite k f) }
 
   not-all : ((k : Axis) → AxisOf c (unit k) true) → ⊥
   not-all h = let low = lowest v some in T_not (level v low.0) low.1 (rw (← axis-is low.0 true (h low.0).fell) tt)
 
   -- ---- the pick, by its rule
   abbrev pub fewest : ℕ
-  fewest = 2 + powersOf i * (6 - remainingOf n + remainingOf n * (remainingOf n - 1) * (size n + 1 - remainingOf n))
+  fewest = 2 + powers_of i * (6 - remaining_of n + remaining_of n * (remaining_of n - 1) * (size n + 1 - remaining_of n))
 
   -- the most looks of the rounds
   abbrev M : ℕ
-  M = suc (w - r) * (length (only (takesPart v) pairs) * K)
+  M = suc (w - r) * (length (only (takes_part v) pairs) * K)
 
   all-few : (l k : ℕ) → l + r * K ≤ 2 + 6 * K → k ≤ M → l + k ≤ fewest
   all-few l k h j =
       let e : w + 1 - r ≡ suc (w - r) = omega (arith, few) in
-      rw (e, ← pairs-taking v) (looks-add-up K r (length (only (takesPart v) pairs)) (w - r) l k (at-most-3 v) h j)
+      rw (e, ← pairs-taking v) (looks-add-up K r (length (only (takes_part v) pairs)) (w - r) l k (at-most-3 v) h j)
 
   abbrev Level : Levels → List Vector → Type 0
   Level a l = (a ≡ v) × LevelsAnswered c v × (length l + r * K ≤ 2 + 6 * K)
@@ -245,27 +245,27 @@ module _ (n : Vector) (t : ℤ) (i : Inputs) (o : OnSlope n t i) where
 
   -- none of the refusals 1 to 6
   pub good-inputs : {Stops : Stop → List Vector → Type 0} → InputRule (permitted i.solid i.bytes) (look i.solid i.bytes) i.start i.frame i.reach Stops
-  unfolding isInside
+  unfolding is_inside
   good-inputs = record {
     judged = record {
-      one = λ z. absurd (T_not (between (pos 1) i.reach (pos 256)) z o.permitted.permittedReach);
-      two = λ z. absurd (T_not (between (pos 0) i.frame (pos 7)) z o.permitted.permittedFrame);
-      three = λ z. absurd (T_not (permitted i.solid i.bytes) z o.permitted.permittedSolid);
-      fourStart = λ z. absurd (T_not (isInside (look_of i.start)) z (rw o.touched.startFilled tt));
-      fourApex = λ z. absurd (T_not (isInside (look_of c.apex)) z (rw o.touched.apexEmpty tt));
+      one = λ z. absurd (T_not (between (pos 1) i.reach (pos 256)) z o.permitted.permitted_reach);
+      two = λ z. absurd (T_not (between (pos 0) i.frame (pos 7)) z o.permitted.permitted_frame);
+      three = λ z. absurd (T_not (permitted i.solid i.bytes) z o.permitted.permitted_solid);
+      four_start = λ z. absurd (T_not (is_inside (look_of i.start)) z (rw o.touched.start_filled tt));
+      four_apex = λ z. absurd (T_not (is_inside (look_of c.apex)) z (rw o.touched.apex_empty tt));
     };
-    five = λ _ e. absurd (let k = sym e ∙ o.touched.startFilled in let z : ◌≡◌ {A = ℕ} 0 1 = cc in omega arith);
-    six = λ _ _ e. absurd (let k = sym e ∙ o.touched.apexEmpty in let z : ◌≡◌ {A = ℕ} 0 1 = cc in omega arith);
+    five = λ _ e. absurd (let k = sym e ∙ o.touched.start_filled in let z : ◌≡◌ {A = ℕ} 0 1 = cc in omega arith);
+    six = λ _ _ e. absurd (let k = sym e ∙ o.touched.apex_empty in let z : ◌≡◌ {A = ℕ} 0 1 = cc in omega arith);
   }
 
   slope-pick : PickRule (permitted i.solid i.bytes) look_of i.start i.frame i.reach (powers R) (axes c) Level Ended (Few fewest (λ f. f ≡ found c v ideally)) (λ e l. EdgeHere e)
   slope-pick = record {
     started = record {
       inputs = good-inputs;
-      beginSays = λ _. says-weaker _ (λ a l h. levels-say a l h.0 h.1) (λ e l h. h.holds) (axes-says c axis-rule (λ h. absurd (not-all h)));
+      begin_says = λ _. says-weaker _ (λ a l h. levels-say a l h.0 h.1) (λ e l h. h.holds) (axes-says c axis-rule (λ h. absurd (not-all h)));
     };
     ended = λ _ a. record {
-      roundsSay = rounds-of a;
+      rounds_say = rounds-of a;
       ten = λ e l h z. absurd (T_not (leb (size (levelled a (normal e.0))) R) z (rw (h.0, h.1.holds) end_fits));
       ends = λ e l h z. record { holds = same-found h.0 h.1.holds; few = h.1.few };
     };

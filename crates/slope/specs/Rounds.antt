@@ -12,7 +12,7 @@ use Rattle.rules.specs.declared.Pair.{Pair}
 use Rattle.rules.specs.declared.Choice.{Choice}
 use Rattle.rules.specs.declared.Choice.TheVariants.{Nothing, Chosen}
 use Rattle.rules.specs.Vectors.{lay}
-use Rattle.rules.specs.Walk.{Stop, stop, pairs, way, step, keep, only, choice, takesPart, Probe}
+use Rattle.rules.specs.Walk.{Stop, stop, pairs, way, step, keep, only, choice, takes_part, Probe}
 use Rattle.laws.specs.Tests.{Each}
 use Rattle.laws.specs.Only.{only-holds}
 use Rattle.laws.specs.Flat.{Flat, Lies, raised, raised-way}
@@ -20,15 +20,15 @@ use Rattle.laws.specs.Looks.{FellOf, StoppedOf, RoundOf}
 use Rattle.laws.specs.Next.{LevelsAnswered, Reached, sideways, turn-of, NextLook, next-look}
 use Rattle.laws.specs.Walks.{WalkRule}
 use Rattle.slope.specs.Falls.{Near, fell-is}
-use Rattle.slope.specs.Ideal.{downs, idealRound, ideal, Upright, heights, Down, step-upright, step-lower, no_step, round-down, ideal-ends, ideal-goes-on}
+use Rattle.slope.specs.Ideal.{downs, ideal_round, ideal, Upright, heights, Down, step-upright, step-lower, no_step, round-down, ideal-ends, ideal-goes-on}
 
 -- refusal 8, at the voxel that was to be looked at next
 pub record Edge (c : Probe) (r : Stop) : Type 0 where
-  pub isEight : r.number ≡ 8
+  pub is_eight : r.number ≡ 8
   pub next : NextLook c r
 
-pub edge-sideways : {c : Probe} (v : Levels) → LevelsAnswered c v → (k : ℕ) (m : Triangle) (p : Vector) → Reached c (only (takesPart v) pairs) k m → StoppedOf c m (only (takesPart v) pairs) p → Edge c (stop 8 p k)
-edge-sideways {c} v asked k m p h o = record { isEight = refl; next = next-look c (way m o.pair) (sideways v asked m h o.pair (turn-of c o) refl) o.stopped }
+pub edge-sideways : {c : Probe} (v : Levels) → LevelsAnswered c v → (k : ℕ) (m : Triangle) (p : Vector) → Reached c (only (takes_part v) pairs) k m → StoppedOf c m (only (takes_part v) pairs) p → Edge c (stop 8 p k)
+edge-sideways {c} v asked k m p h o = record { is_eight = refl; next = next-look c (way m o.pair) (sideways v asked m h o.pair (turn-of c o) refl) o.stopped }
 
 -- ---- rounds
 module _ {c : Probe} {n : Vector} {t : ℤ} {R : ℕ} (near : Near c n t R) (v : Levels) (lies : Lies v (lay c.signs n)) where
@@ -36,17 +36,17 @@ module _ {c : Probe} {n : Vector} {t : ℤ} {R : ℕ} (near : Near c n t R) (v :
   N = raised v (lay c.signs n)
 
   abbrev ps : List Pair
-  ps = only (takesPart v) pairs
+  ps = only (takes_part v) pairs
 
-  fell-downs : (m : Triangle) → Flat v m → (xs fs : List Pair) → Each (λ x. T (takesPart v x)) xs → FellOf c m xs fs → fs ≡ downs N v m xs
+  fell-downs : (m : Triangle) → Flat v m → (xs fs : List Pair) → Each (λ x. T (takes_part v x)) xs → FellOf c m xs fs → fs ≡ downs N v m xs
   unfolding only
   fell-downs m f [] fs ts h = h
   fell-downs m f (x ∷ xs) fs ts h =
       h.4 ∙ ap₂ (λ (b : Bool) (gs : List Pair). keep b x gs) (fell-is near (way m x) h.0 h.2 ∙ ap (λ z. lt_z z (pos 0)) (sym (raised-way v m f (lay c.signs n) lies x ts.0))) (fell-downs m f xs h.1 ts.1 h.3)
 
-  round-ideal : (m : Triangle) (x : Choice) → Flat v m → RoundOf c ps m x → x ≡ idealRound N v m
-  unfolding idealRound
-  round-ideal m x f w = w.2 ∙ ap (choice m) (fell-downs m f ps w.0 (only-holds (takesPart v) pairs) w.1)
+  round-ideal : (m : Triangle) (x : Choice) → Flat v m → RoundOf c ps m x → x ≡ ideal_round N v m
+  unfolding ideal_round
+  round-ideal m x f w = w.2 ∙ ap (choice m) (fell-downs m f ps w.0 (only-holds (takes_part v) pairs) w.1)
 
   -- heights of at most 3 + r leave at most r steps, and the ideal walk from here ends where it ended
   pub record Kept (final : Triangle × ℕ) (left r k : ℕ) (m : Triangle) : Type 0 where
@@ -60,8 +60,8 @@ module _ {c : Probe} {n : Vector} {t : ℤ} {R : ℕ} (near : Near c n t R) (v :
   falls_down m x f w = rw (← round-ideal m (Chosen x) f w) at (round-down N v m)
 
   -- F holds of refusal 8, given while a pair of the triangle reached was asked
-  pub slope-walk : {F : Stop → Type 0} → ((k : ℕ) (m : Triangle) (p : Vector) → Reached c (only (takesPart v) pairs) k m → StoppedOf c m (only (takesPart v) pairs) p → F (stop 8 p k))
-      → (final : Triangle × ℕ) → WalkRule c (only (takesPart v) pairs) (Kept final) (λ e. e ≡ final) F
+  pub slope-walk : {F : Stop → Type 0} → ((k : ℕ) (m : Triangle) (p : Vector) → Reached c (only (takes_part v) pairs) k m → StoppedOf c m (only (takes_part v) pairs) p → F (stop 8 p k))
+      → (final : Triangle × ℕ) → WalkRule c (only (takes_part v) pairs) (Kept final) (λ e. e ≡ final) F
   slope-walk {F} beyond final = record {
     outside = λ left r k m p h o. beyond k m p h.reached o;
     ends = λ left r k m h w. sym (ideal-ends N v r k m (round-ideal m Nothing h.upright.flat w)) ∙ h.same;

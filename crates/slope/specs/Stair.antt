@@ -18,5 +18,5 @@ unfoldable pub slices : ℕ → ℕ → List ℕ
 slices zero z = []
 slices (suc n) z = rows 9 z ++ slices n (suc z)
 
-unfoldable pub stairBytes : List ℕ
-stairBytes = slices 9 0
+unfoldable pub stair_bytes : List ℕ
+stair_bytes = slices 9 0

@@ -7,15 +7,15 @@ use Rattle.rules.specs.declared.Vector.{Vector}
 use Rattle.rules.specs.declared.Touch.{Touch}
 use Rattle.rules.specs.declared.Touch.TheVariants.{Guess, Refused as TouchRefused}
 use Rattle.rules.specs.Vectors.{vector, ◌⊕◌, ◌⊖◌, minus, scale, dot, cross, det, sphere, lay, size, unit0, unit2}
-use Rattle.rules.specs.Solids.{between, permittedWedge, filledWedge, inBox, look, rowBytes, sliceBytes, stackBytes, permittedStack, voxel, filledStack}
+use Rattle.rules.specs.Solids.{between, permitted_wedge, filled_wedge, in_box, look, row_bytes, slice_bytes, stack_bytes, permitted_stack, voxel, filled_stack}
 use Rattle.rules.specs.Asked.{after, ◌>>=◌}
-use Rattle.rules.specs.Walk.{ensure, sign, signs, seen, asked, normal, keep, only, remaining, takesPart, levelled, determinant, inside, anyInside, firstFree, choice, lookAt, fallsAt, facing, cornersFilled, allCorners, quickStart, falling, round as roundOf, walk, rounds, found, end}
-use Rattle.rules.specs.Pick.{isInside, placing, judging, answer}
+use Rattle.rules.specs.Walk.{ensure, sign, signs, seen, asked, normal, keep, only, remaining, takes_part, levelled, determinant, inside, any_inside, first_free, choice, look_at, falls_at, facing, corners_filled, all_corners, quick_start, falling, round as round_of, walk, rounds, found, end}
+use Rattle.rules.specs.Pick.{is_inside, placing, judging, answer}
 use Rattle.rules.specs.Touch.{touch, marked, touch_of}
-use Rattle.slope.specs.Stair.{row, rows, slices, stairBytes}
-use Rattle.slope.specs.Demands.{Inputs, apexOf, OnSlope}
+use Rattle.slope.specs.Stair.{row, rows, slices, stair_bytes}
+use Rattle.slope.specs.Demands.{Inputs, apex_of, OnSlope}
 use Rattle.slope.specs.Cases.{on-wedge, on_line, on-stair, not-empty}
-use Rattle.slope.specs.Touches.{touchAt, Guesses, TouchRefuses, WrongGuess, TouchNotEmpty}
+use Rattle.slope.specs.Touches.{touch_at, Guesses, TouchRefuses, WrongGuess, TouchNotEmpty}
 
 -- ---- the outcome of a touch
 data Outcome : Type 0 where
@@ -26,35 +26,35 @@ outcome : Touch → Outcome
 outcome (Guess a) = G a.normal a.steps a.looks
 outcome (TouchRefused r) = R r.number
 
-guesses : {n : Vector} {t : ℤ} {i : Inputs} {steps looks : ℕ} → OnSlope n t i → dot n (apexOf i) ≡ t → outcome (touchAt i) ≡ G n steps looks → Guesses n t i steps looks
+guesses : {n : Vector} {t : ℤ} {i : Inputs} {steps looks : ℕ} → OnSlope n t i → dot n (apex_of i) ≡ t → outcome (touch_at i) ≡ G n steps looks → Guesses n t i steps looks
 unfolding outcome
-guesses {n} {t} {i} {steps} {looks} o l e = go (touchAt i) refl e
+guesses {n} {t} {i} {steps} {looks} o l e = go (touch_at i) refl e
   where
-    go : (x : Touch) → touchAt i ≡ x → outcome x ≡ G n steps looks → Guesses n t i steps looks
-    go (Guess a) is e = record { onLevel = record { onSlope = o; firstLevel = l }; answer = a; is = is; isNormal = cc e; stepsAre = cc e; looksAre = cc e }
+    go : (x : Touch) → touch_at i ≡ x → outcome x ≡ G n steps looks → Guesses n t i steps looks
+    go (Guess a) is e = record { on_level = record { on_slope = o; first_level = l }; answer = a; is = is; is_normal = cc e; steps_are = cc e; looks_are = cc e }
     go (TouchRefused r) is e = absurd (let z : ◌≡◌ {A = ℕ} 0 1 = cc e in omega arith)
 
-refuses : {n : Vector} {t : ℤ} {i : Inputs} {number : ℕ} → OnSlope n t i → dot n (apexOf i) ≡ t → outcome (touchAt i) ≡ R number → TouchRefuses n t i number
+refuses : {n : Vector} {t : ℤ} {i : Inputs} {number : ℕ} → OnSlope n t i → dot n (apex_of i) ≡ t → outcome (touch_at i) ≡ R number → TouchRefuses n t i number
 unfolding outcome
-refuses {n} {t} {i} {number} o l e = go (touchAt i) refl e
+refuses {n} {t} {i} {number} o l e = go (touch_at i) refl e
   where
-    go : (x : Touch) → touchAt i ≡ x → outcome x ≡ R number → TouchRefuses n t i number
+    go : (x : Touch) → touch_at i ≡ x → outcome x ≡ R number → TouchRefuses n t i number
     go (Guess a) is e = absurd (let z : ◌≡◌ {A = ℕ} 0 1 = cc e in omega arith)
-    go (TouchRefused r) is e = record { onLevel = record { onSlope = o; firstLevel = l }; answer = r; is = is; numberIs = cc e }
+    go (TouchRefused r) is e = record { on_level = record { on_slope = o; first_level = l }; answer = r; is = is; number_is = cc e }
 
-guesses-wrong : {n : Vector} {t : ℤ} {i : Inputs} (guessed : Vector) (steps looks : ℕ) → OnSlope n t i → outcome (touchAt i) ≡ G guessed steps looks → (guessed ≡ n → ⊥) → WrongGuess n t i guessed
+guesses-wrong : {n : Vector} {t : ℤ} {i : Inputs} (guessed : Vector) (steps looks : ℕ) → OnSlope n t i → outcome (touch_at i) ≡ G guessed steps looks → (guessed ≡ n → ⊥) → WrongGuess n t i guessed
 unfolding outcome
-guesses-wrong {n} {t} {i} guessed steps looks o e w = go (touchAt i) refl e
+guesses-wrong {n} {t} {i} guessed steps looks o e w = go (touch_at i) refl e
   where
-    go : (x : Touch) → touchAt i ≡ x → outcome x ≡ G guessed steps looks → WrongGuess n t i guessed
-    go (Guess a) is e = record { onSlope = o; answer = a; is = is; isNormal = cc e; isWrong = w }
+    go : (x : Touch) → touch_at i ≡ x → outcome x ≡ G guessed steps looks → WrongGuess n t i guessed
+    go (Guess a) is e = record { on_slope = o; answer = a; is = is; is_normal = cc e; is_wrong = w }
     go (TouchRefused r) is e = absurd (let z : ◌≡◌ {A = ℕ} 0 1 = cc e in omega arith)
 
 differ : (a b : Vector) → (a.x ≡ b.x → ⊥) → a ≡ b → ⊥
 differ a b h e = h (ap (λ (v : Vector). v.x) e)
 
 pub touch-not-empty : TouchNotEmpty
-unfolding outcome ◌⊕◌ ◌⊖◌ minus scale dot cross det sphere lay size between permittedWedge filledWedge inBox look rowBytes voxel filledStack permittedStack stackBytes sliceBytes stairBytes slices rows row after ◌>>=◌ ensure sign signs seen asked normal keep only remaining takesPart levelled determinant inside anyInside firstFree choice lookAt fallsAt facing cornersFilled allCorners quickStart falling roundOf walk rounds found end isInside placing judging answer touch marked touch_of
+unfolding outcome ◌⊕◌ ◌⊖◌ minus scale dot cross det sphere lay size between permitted_wedge filled_wedge in_box look row_bytes voxel filled_stack permitted_stack stack_bytes slice_bytes stair_bytes slices rows row after ◌>>=◌ ensure sign signs seen asked normal keep only remaining takes_part levelled determinant inside any_inside first_free choice look_at falls_at facing corners_filled all_corners quick_start falling round_of walk rounds found end is_inside placing judging answer touch marked touch_of
 touch-not-empty = record {
   W1 = guesses (on_line (on-wedge (pos 1) unit0 tt tt tt tt tt tt refl tt tt refl refl refl) tt tt) refl refl;
   W8 = guesses (on_line (on-wedge (pos 1) (minus unit0) tt tt tt tt tt tt refl tt tt refl refl refl) tt tt) refl refl;
@@ -63,6 +63,6 @@ touch-not-empty = record {
   W7LongWalk = not-empty.W7;
   W6 = refuses (on_line (on-wedge (pos 1) unit2 tt tt tt tt tt tt refl tt tt refl refl refl) tt tt) refl refl;
   edge = refuses (on_line (on-wedge (pos 1) unit0 tt tt tt tt tt tt refl tt tt refl refl refl) tt tt) refl refl;
-  offLevel = guesses-wrong _ 0 11 (on_line (on-wedge (pos 1) (vector (negsuc 0) (pos 0) (pos 1)) tt tt tt tt tt tt refl tt tt refl refl refl) tt tt) refl (differ _ _ (λ e. omega (arith, parts, e)));
-  powerOneOnly = guesses-wrong _ 3 29 (on_line (on-wedge (pos 1) (vector (negsuc 0) (pos 1) (pos 0)) tt tt tt tt tt tt refl tt tt refl refl refl) tt tt) refl (differ _ _ (λ e. omega (arith, parts, e)));
+  off_level = guesses-wrong _ 0 11 (on_line (on-wedge (pos 1) (vector (negsuc 0) (pos 0) (pos 1)) tt tt tt tt tt tt refl tt tt refl refl refl) tt tt) refl (differ _ _ (λ e. omega (arith, parts, e)));
+  power_one_only = guesses-wrong _ 3 29 (on_line (on-wedge (pos 1) (vector (negsuc 0) (pos 1) (pos 0)) tt tt tt tt tt tt refl tt tt refl refl refl) tt tt) refl (differ _ _ (λ e. omega (arith, parts, e)));
 }

@@ -20,10 +20,10 @@ use Rattle.rules.specs.declared.Touch.{Touch}
 use Rattle.rules.specs.declared.Touch.TheVariants.{Guess, Refused as TouchRefused}
 use Rattle.rules.specs.Vectors.{minus, dot, lay, size}
 use Rattle.rules.specs.Solids.{permitted, look}
-use Rattle.rules.specs.Walk.{Stop, stop, Axis, axis0, axis1, axis2, unit, units, pairs, level, noneLevel, only, remaining, takesPart, levelled, normal, Probe, Found, laid, corner, allCorners, rounds, found}
-use Rattle.rules.specs.Pick.{isInside}
+use Rattle.rules.specs.Walk.{Stop, stop, Axis, axis0, axis1, axis2, unit, units, pairs, level, none_level, only, remaining, takes_part, levelled, normal, Probe, Found, laid, corner, all_corners, rounds, found}
+use Rattle.rules.specs.Pick.{is_inside}
 use Rattle.rules.specs.Touch.{touch, touch_of}
-use Rattle.rules.specs.Lean.{is_zero, levelsOf}
+use Rattle.rules.specs.Lean.{is_zero, levels_of}
 use Rattle.laws.specs.Parts.{NonNegative, Positive, part, parts-by, dot-sum, dot-minus, dot-unit}
 use Rattle.laws.specs.Levels.{is-zero, above_zero, levels-of, levels-eq}
 use Rattle.laws.specs.Flat.{raised}
@@ -37,15 +37,15 @@ use Rattle.laws.specs.PickRule.{Passed, PickRule, touch-by-rule}
 use Rattle.laws.specs.Corners.{FirstEmpty, nth, corner-inside, corner-empty, corners-say}
 use Rattle.laws.specs.Touches.{all_take, three-remain, NextTouch, next-touch}
 use Rattle.laws.specs.Touched.{unmarked, marked-says}
-use Rattle.laws.specs.Answers.{foundOf, stopOf, AnswerSays}
+use Rattle.laws.specs.Answers.{found_of, stop_of, AnswerSays}
 use Rattle.laws.specs.Theorems.{guess-looks}
-use Rattle.slope.specs.Demands.{Inputs, signsOf, apexOf, probeAt, OnSlope, ofWedge}
+use Rattle.slope.specs.Demands.{Inputs, signs_of, apex_of, probe_at, OnSlope, of_wedge}
 use Rattle.slope.specs.Falls.{Near}
-use Rattle.slope.specs.Ideal.{ideal-steps, idealOf}
+use Rattle.slope.specs.Ideal.{ideal-steps, ideal_of}
 use Rattle.slope.specs.Picks.{upward, level-is, below, above, end-normal, end_fits, rounds-ideal, good-inputs}
 use Rattle.slope.specs.Wedges.{multiple-slope}
 use Rattle.slope.specs.Proved.{is_whole, products, generate, same_whole}
-use Rattle.slope.specs.Touches.{touchAt, nearAt, OnLevel, NoZero, TouchOutside, TouchLevel, TouchedAs, QuickTouch}
+use Rattle.slope.specs.Touches.{touch_at, near_at, OnLevel, NoZero, TouchOutside, TouchLevel, TouchedAs, QuickTouch}
 
 -- ---- numbers: t - z is below t, or not
 lower : (t z : ℤ) → (t +ℤ neg_ℤ z) <ℤ t → pos 1 ≤ℤ z
@@ -57,42 +57,42 @@ not_lower t (pos (suc n)) h k = absurd (let a = atom t in omega (arith, fact (se
 not_lower t (negsuc n) h k = absurd k.le
 
 module _ (n : Vector) (t : ℤ) (i : Inputs) (o : OnLevel n t i) where
-  abbrev onSlope : OnSlope n t i
-  onSlope = o.onSlope
+  abbrev on_slope : OnSlope n t i
+  on_slope = o.on_slope
 
   abbrev d : Probe
-  d = nearAt i
+  d = near_at i
 
   abbrev R : ℕ
   R = nat_abs i.reach
 
   abbrev v : Levels
-  v = levelsOf n
+  v = levels_of n
 
   abbrev N : Vector
-  N = lay (signsOf i) n
+  N = lay (signs_of i) n
 
   near : Near d n t 1
   near = record {
-    below = below n t i onSlope;
-    above = above n t i onSlope;
-    low = let a = atom (dot n (apexOf i)) in let b = atom t in goal (search linear) (omega (arith, fact (search linear) o.firstLevel));
-    high = let a = atom (dot n (apexOf i)) in let b = atom t in goal (search linear) (omega (arith, fact (search linear) o.firstLevel));
+    below = below n t i on_slope;
+    above = above n t i on_slope;
+    low = let a = atom (dot n (apex_of i)) in let b = atom t in goal (search linear) (omega (arith, fact (search linear) o.first_level));
+    high = let a = atom (dot n (apex_of i)) in let b = atom t in goal (search linear) (omega (arith, fact (search linear) o.first_level));
     reaches = inl (lit≤ tt);
   }
 
   -- ---- the corners
   corner-height : (k : Axis) → dot n (corner d (unit k)) ≡ t +ℤ neg_ℤ (part k N)
   corner-height k =
-      dot-sum n d.apex (lay (signsOf i) (minus (unit k)))
-      ∙ ap (λ z. z +ℤ dot n (lay (signsOf i) (minus (unit k)))) o.firstLevel
-      ∙ ap (λ z. t +ℤ z) (sym (lay-dot (signsOf i) n (minus (unit k))) ∙ dot-minus N (unit k) ∙ ap neg_ℤ (dot-unit N k))
+      dot-sum n d.apex (lay (signs_of i) (minus (unit k)))
+      ∙ ap (λ z. z +ℤ dot n (lay (signs_of i) (minus (unit k)))) o.first_level
+      ∙ ap (λ z. t +ℤ z) (sym (lay-dot (signs_of i) n (minus (unit k))) ∙ dot-minus N (unit k) ∙ ap neg_ℤ (dot-unit N k))
 
   filled-sloped : (k : Axis) → d.look (corner d (unit k)) ≡ Filled → level v k ≡ false
-  filled-sloped k e = level-is n t i onSlope k ∙ above_zero (part k N) (lower t (part k N) (rw (corner-height k) at (below n t i onSlope _ e)))
+  filled-sloped k e = level-is n t i on_slope k ∙ above_zero (part k N) (lower t (part k N) (rw (corner-height k) at (below n t i on_slope _ e)))
 
   empty-level : (k : Axis) → d.look (corner d (unit k)) ≡ Empty → level v k ≡ true
-  empty-level k e = level-is n t i onSlope k ∙ ap is_zero (not_lower t (part k N) (rw (corner-height k) at (above n t i onSlope _ e)) (upward n t i onSlope k))
+  empty-level k e = level-is n t i on_slope k ∙ ap is_zero (not_lower t (part k N) (rw (corner-height k) at (above n t i on_slope _ e)) (upward n t i on_slope k))
 
   level-zero : (k : Axis) → level v k ≡ true → part k n ≡ pos 0
   level-zero k e = is-zero (part k n) (sym (levels-of n k) ∙ e)
@@ -103,14 +103,14 @@ module _ (n : Vector) (t : ℤ) (i : Inputs) (o : OnLevel n t i) where
   -- ---- what is said of the touch
   -- 8, where no axis is level
   record EdgeOf (r : Stop) : Type 0 where
-    none : noneLevel ≡ v
-    isEight : r.number ≡ 8
+    none : none_level ≡ v
+    is_eight : r.number ≡ 8
     next : NextTouch d r
 
   -- 11, at the lowest level axis
   record LevelOf (r : Stop) (l : List Vector) : Type 0 where
     axis : Axis
-    isLevel : level v axis ≡ true
+    is_level : level v axis ≡ true
     lowest : (j : Axis) → T (earlier j axis) → level v j ≡ false
     is : r ≡ stop 11 (corner d (unit axis)) 0
     looks : length l ≡ 2 + nth axis
@@ -119,55 +119,55 @@ module _ (n : Vector) (t : ℤ) (i : Inputs) (o : OnLevel n t i) where
   Stops r l = EdgeOf r ⊎ LevelOf r l
 
   abbrev Finds : Found → List Vector → Type 0
-  Finds f l = (noneLevel ≡ v) × (f ≡ found d v (idealOf (signsOf i) n))
+  Finds f l = (none_level ≡ v) × (f ≡ found d v (ideal_of (signs_of i) n))
 
   abbrev Level : Levels → List Vector → Type 0
-  Level a l = (a ≡ v) × (noneLevel ≡ v)
+  Level a l = (a ≡ v) × (none_level ≡ v)
 
   abbrev Ended : Levels → Triangle × ℕ → List Vector → Type 0
-  Ended a e l = (a ≡ v) × (noneLevel ≡ v) × (e ≡ idealOf (signsOf i) n)
+  Ended a e l = (a ≡ v) × (none_level ≡ v) × (e ≡ ideal_of (signs_of i) n)
 
   -- the pairs that take part are all, where no axis is level
-  all-pairs : noneLevel ≡ v → only (takesPart v) pairs ≡ pairs
-  all-pairs e = ap (λ (a : Levels). only (takesPart a) pairs) (sym e) ∙ all_take
+  all-pairs : none_level ≡ v → only (takes_part v) pairs ≡ pairs
+  all-pairs e = ap (λ (a : Levels). only (takes_part a) pairs) (sym e) ∙ all_take
 
-  edge_of : noneLevel ≡ v → (k : ℕ) (m : Triangle) (p : Vector) → Reached d (only (takesPart v) pairs) k m → StoppedOf d m (only (takesPart v) pairs) p → EdgeOf (stop 8 p k)
+  edge_of : none_level ≡ v → (k : ℕ) (m : Triangle) (p : Vector) → Reached d (only (takes_part v) pairs) k m → StoppedOf d m (only (takes_part v) pairs) p → EdgeOf (stop 8 p k)
   edge_of e k m p h s =
       let all = all-pairs e in
-      record { none = e; isEight = refl; next = next-touch (probeAt i) k m p (subst (λ ps. Reached d ps k m) all h) (subst (λ ps. StoppedOf d m ps p) all s) }
+      record { none = e; is_eight = refl; next = next-touch (probe_at i) k m p (subst (λ ps. Reached d ps k m) all h) (subst (λ ps. StoppedOf d m ps p) all s) }
 
-  rounds-of : noneLevel ≡ v → Says (λ e l. e ≡ idealOf (signsOf i) n) (λ r l. EdgeOf r) (rounds d R v)
-  rounds-of e = says-weaker _ (λ a l h. h.holds) (λ r l h. h) (rounds-ideal n t i onSlope (1 ∷ []) 1 near (edge_of e))
+  rounds-of : none_level ≡ v → Says (λ e l. e ≡ ideal_of (signs_of i) n) (λ r l. EdgeOf r) (rounds d R v)
+  rounds-of e = says-weaker _ (λ a l h. h.holds) (λ r l h. h) (rounds-ideal n t i on_slope (1 ∷ []) 1 near (edge_of e))
 
   first-empty : (r : Stop) (l : List Vector) → FirstEmpty d (unit axis0 ∷ unit axis1 ∷ unit axis2 ∷ []) r (length l) → LevelOf r (i.start ∷ d.apex ∷ l)
   first-empty r l h =
       let z = corner-empty d (length l) h in
-      record { axis = z.0.axis; isLevel = empty-level z.0.axis z.0.empty; lowest = λ j e. filled-sloped j (z.0.lower j e); is = z.0.is; looks = omega (arith, z.1) }
+      record { axis = z.0.axis; is_level = empty-level z.0.axis z.0.empty; lowest = λ j e. filled-sloped j (z.0.lower j e); is = z.0.is; looks = omega (arith, z.1) }
 
-  slope-touch : PickRule (permitted i.solid i.bytes) (look i.solid i.bytes) i.start i.frame i.reach (1 ∷ []) (allCorners d) Level Ended Finds Stops
-  unfolding allCorners
+  slope-touch : PickRule (permitted i.solid i.bytes) (look i.solid i.bytes) i.start i.frame i.reach (1 ∷ []) (all_corners d) Level Ended Finds Stops
+  unfolding all_corners
   slope-touch = record {
     started = record {
-      inputs = good-inputs n t i onSlope;
-      beginSays = λ h.
-          says_map _ (λ _. noneLevel)
+      inputs = good-inputs n t i on_slope;
+      begin_says = λ h.
+          says_map _ (λ _. none_level)
           (says-weaker _ (λ _ l k. levels-are k.0) (λ r l k. inr (first-empty r l k)) (corners-say d (unit axis0 ∷ unit axis1 ∷ unit axis2 ∷ []) (inside h.passed axis0, (inside h.passed axis1, (inside h.passed axis2, tt)))))
           (λ _ l k. (k, k));
     };
     ended = λ _ a. record {
-      roundsSay = λ l h. rw h.0 (says-weaker _ (λ e k j. (refl, h.1, j)) (λ r k j. inl j) (rounds-of h.1));
-      ten = λ e l h z. absurd (T_not (leb (size (levelled a (normal e.0))) R) z (rw (h.0, h.2) (end_fits n t i onSlope)));
+      rounds_say = λ l h. rw h.0 (says-weaker _ (λ e k j. (refl, h.1, j)) (λ r k j. inl j) (rounds-of h.1));
+      ten = λ e l h z. absurd (T_not (leb (size (levelled a (normal e.0))) R) z (rw (h.0, h.2) (end_fits n t i on_slope)));
       ends = λ e l h z. (h.1, λ j. found d (h.0 j) (h.2 j));
     };
   }
     where
-      inside : Passed (permitted i.solid i.bytes) (probeAt i) i.start i.frame i.reach → (k : Axis) → T (isInside (d.look (corner d (unit k))))
-      inside h = corner-inside i.solid i.bytes i.start (signsOf i) h.startInside h.apexInside
+      inside : Passed (permitted i.solid i.bytes) (probe_at i) i.start i.frame i.reach → (k : Axis) → T (is_inside (d.look (corner d (unit k))))
+      inside h = corner-inside i.solid i.bytes i.start (signs_of i) h.start_inside h.apex_inside
 
-      levels-are : (d.look (corner d (unit axis0)) ≡ Filled) × ((d.look (corner d (unit axis1)) ≡ Filled) × ((d.look (corner d (unit axis2)) ≡ Filled) × Unit {0})) → noneLevel ≡ v
+      levels-are : (d.look (corner d (unit axis0)) ≡ Filled) × ((d.look (corner d (unit axis1)) ≡ Filled) × ((d.look (corner d (unit axis2)) ≡ Filled) × Unit {0})) → none_level ≡ v
       levels-are h = levels-eq each
         where
-          each : (k : Axis) → level noneLevel k ≡ level v k
+          each : (k : Axis) → level none_level k ≡ level v k
           each axis0 = sym (filled-sloped axis0 h.0)
           each axis1 = sym (filled-sloped axis1 h.1.0)
           each axis2 = sym (filled-sloped axis2 h.1.1.0)
@@ -175,70 +175,70 @@ module _ (n : Vector) (t : ℤ) (i : Inputs) (o : OnLevel n t i) where
   abbrev Said : Pick → Type 0
   Said = AnswerSays Finds Stops
 
-  said : Said (unmarked (touchAt i))
+  said : Said (unmarked (touch_at i))
   unfolding touch_of
   said = marked-says _ _ (touch (permitted i.solid i.bytes) (look i.solid i.bytes) i.start i.frame i.reach) (touch-by-rule _ _ _ _ _ slope-touch)
 
   -- ---- what is wanted
-  guess-whole : (a : AcceptedPick) → touchAt i ≡ Guess a → foundOf a ≡ found (nearAt i) (levelsOf n) (idealOf (signsOf i) n)
+  guess-whole : (a : AcceptedPick) → touch_at i ≡ Guess a → found_of a ≡ found (near_at i) (levels_of n) (ideal_of (signs_of i) n)
   guess-whole a e = (subst (λ (x : Touch). Said (unmarked x)) e said).1.1
 
-  no_zero : noneLevel ≡ v → NoZero n
+  no_zero : none_level ≡ v → NoZero n
   no_zero e k z = sloped-not k (sym (ap (λ (a : Levels). level a k) e) ∙ none-level k) z
     where
-      none-level : (k : Axis) → level noneLevel k ≡ false
+      none-level : (k : Axis) → level none_level k ≡ false
       none-level axis0 = refl
       none-level axis1 = refl
       none-level axis2 = refl
 
-  three : noneLevel ≡ v → length (remaining v) ≡ 3
+  three : none_level ≡ v → length (remaining v) ≡ 3
   three e = ap (λ (a : Levels). length (remaining a)) (sym e) ∙ three-remain
 
-  one-touch : TouchedAs n i (touchAt i)
+  one-touch : TouchedAs n i (touch_at i)
   unfolding found
-  one-touch = go (touchAt i) refl said
+  one-touch = go (touch_at i) refl said
     where
-      go : (x : Touch) → touchAt i ≡ x → Said (unmarked x) → TouchedAs n i x
+      go : (x : Touch) → touch_at i ≡ x → Said (unmarked x) → TouchedAs n i x
       go (Guess a) e h =
-          let triangle : a.triangle ≡ laid (signsOf i) (idealOf (signsOf i) n).0 = ap (λ (f : Found). f.triangle) h.1.1 in
-          let steps : a.steps ≡ (idealOf (signsOf i) n).1 = ap (λ (f : Found). f.steps) h.1.1 in
+          let triangle : a.triangle ≡ laid (signs_of i) (ideal_of (signs_of i) n).0 = ap (λ (f : Found). f.triangle) h.1.1 in
+          let steps : a.steps ≡ (ideal_of (signs_of i) n).1 = ap (λ (f : Found). f.steps) h.1.1 in
           record {
-            noZero = no_zero h.1.0;
-            isNormal = ap (λ (f : Found). f.normal) h.1.1 ∙ end-normal n t i onSlope;
-            isTriangle = triangle;
-            inPlane = rw triangle (generators-in v n _ (products n t i onSlope));
-            generated = rw triangle (generate n t i onSlope);
-            stepsAre = steps;
-            fewSteps = omega (arith, steps, three h.1.0, ideal-steps (raised v N) v (size n - length (remaining v)) 0 units);
-            looksAre = guess-looks i.solid i.bytes i.start i.frame i.reach a e;
+            no_zero = no_zero h.1.0;
+            is_normal = ap (λ (f : Found). f.normal) h.1.1 ∙ end-normal n t i on_slope;
+            is_triangle = triangle;
+            in_plane = rw triangle (generators-in v n _ (products n t i on_slope));
+            generated = rw triangle (generate n t i on_slope);
+            steps_are = steps;
+            few_steps = omega (arith, steps, three h.1.0, ideal-steps (raised v N) v (size n - length (remaining v)) 0 units);
+            looks_are = guess-looks i.solid i.bytes i.start i.frame i.reach a e;
           }
       go (TouchRefused r) e h = refused h.1 h.2
         where
-          refused : {l : List Vector} → Stops (stopOf r) l → r.looks ≡ length l → TouchOutside n i r ⊎ TouchLevel n i r
-          refused (inl s) k = inl (record { noZero = no_zero s.none; isEight = s.isEight; next = s.next; outside = outside-box i.solid i.bytes r.place s.next.outside })
+          refused : {l : List Vector} → Stops (stop_of r) l → r.looks ≡ length l → TouchOutside n i r ⊎ TouchLevel n i r
+          refused (inl s) k = inl (record { no_zero = no_zero s.none; is_eight = s.is_eight; next = s.next; outside = outside-box i.solid i.bytes r.place s.next.outside })
           refused (inr s) k = inr (record {
             axis = s.axis;
-            is_zero = level-zero s.axis s.isLevel;
+            is_zero = level-zero s.axis s.is_level;
             lowest = λ j e. sloped-not j (s.lowest j e);
-            isEleven = ap (λ (r : Stop). r.number) s.is;
-            isPlace = ap (λ (r : Stop). r.place) s.is;
-            stepsAre = ap (λ (r : Stop). r.steps) s.is;
-            looksAre = omega (arith, k, s.looks);
+            is_eleven = ap (λ (r : Stop). r.number) s.is;
+            is_place = ap (λ (r : Stop). r.place) s.is;
+            steps_are = ap (λ (r : Stop). r.steps) s.is;
+            looks_are = omega (arith, k, s.looks);
           })
 
-  eleven : (k : Axis) → part k n ≡ pos 0 → (r : RefusedPick) × (touchAt i ≡ TouchRefused r) × TouchLevel n i r
-  eleven k z = go (touchAt i) refl one-touch
+  eleven : (k : Axis) → part k n ≡ pos 0 → (r : RefusedPick) × (touch_at i ≡ TouchRefused r) × TouchLevel n i r
+  eleven k z = go (touch_at i) refl one-touch
     where
-      go : (x : Touch) → touchAt i ≡ x → TouchedAs n i x → (r : RefusedPick) × (touchAt i ≡ TouchRefused r) × TouchLevel n i r
-      go (Guess a) e h = absurd (h.noZero k z)
-      go (TouchRefused r) e (inl h) = absurd (h.noZero k z)
+      go : (x : Touch) → touch_at i ≡ x → TouchedAs n i x → (r : RefusedPick) × (touch_at i ≡ TouchRefused r) × TouchLevel n i r
+      go (Guess a) e h = absurd (h.no_zero k z)
+      go (TouchRefused r) e (inl h) = absurd (h.no_zero k z)
       go (TouchRefused r) e (inr h) = (r, e, h)
 
 -- a vector with no zero part and none against either frame has one frame
-one-frame : (n : Vector) (t u : ℤ) (i j : Inputs) → OnSlope n t i → OnSlope n u j → NoZero n → signsOf i ≡ signsOf j
+one-frame : (n : Vector) (t u : ℤ) (i j : Inputs) → OnSlope n t i → OnSlope n u j → NoZero n → signs_of i ≡ signs_of j
 one-frame n t u i j o p none =
     let g = signs-are (nat_abs i.frame) in let h = signs-are (nat_abs j.frame) in
-    (same-frame (signsOf i) (signsOf j) _ _ g h (positive g o.direction.signed) (positive h p.direction.signed) (lay-lay (signsOf i) n g ∙ sym (lay-lay (signsOf j) n h))).0
+    (same-frame (signs_of i) (signs_of j) _ _ g h (positive g o.direction.signed) (positive h p.direction.signed) (lay-lay (signs_of i) n g ∙ sym (lay-lay (signs_of j) n h))).0
   where
     not-zero : (z : ℤ) → (z ≡ pos 0 → ⊥) → is_zero z ≡ false
     not-zero (pos zero) h = absurd (h refl)
@@ -248,16 +248,16 @@ one-frame n t u i j o p none =
     positive : {s : Vector} → Signs s → NonNegative (lay s n) → Positive (lay s n)
     positive {s} g h = parts-by (λ z. pos 1 ≤ℤ z) (lay s n) (λ k. lay-part-high s n g h k (not-zero (part k n) (none k)))
 
-no-zero-guess : (n : Vector) (t : ℤ) (i : Inputs) → OnLevel n t i → (a : AcceptedPick) → touchAt i ≡ Guess a → NoZero n
-no-zero-guess n t i o a e = (subst (TouchedAs n i) e (one-touch n t i o)).noZero
+no-zero-guess : (n : Vector) (t : ℤ) (i : Inputs) → OnLevel n t i → (a : AcceptedPick) → touch_at i ≡ Guess a → NoZero n
+no-zero-guess n t i o a e = (subst (TouchedAs n i) e (one-touch n t i o)).no_zero
 
 pub quick-touch : QuickTouch
 quick-touch = record {
-  oneTouch = one-touch;
+  one_touch = one-touch;
   eleven = eleven;
-  asLongWalk = λ n t u i j o p a b x y. same_whole n (nearAt i) (probeAt j) (one-frame n t u i j o.onSlope p (no-zero-guess n t i o a x)) a b (guess-whole n t i o a x) (is_whole n u j p b y);
-  twoTouches = λ n t u i j o p a b x y. same_whole n (nearAt i) (nearAt j) (one-frame n t u i j o.onSlope p.onSlope (no-zero-guess n t i o a x)) a b (guess-whole n t i o a x) (guess-whole n u j p b y);
-  wedgeTouch = λ g n wedge p frame reach o r h.
-      rw h.is (one-touch n _ _ (record { onSlope = multiple-slope g n wedge p frame reach o.onWedge (record { t = dot n (apexOf (ofWedge wedge p frame reach)); enough = o.above; least = o.first }); firstLevel = refl }));
-  stackTouch = λ n t stack bytes p frame reach o r h. rw h.is (one-touch n t _ o);
+  as_long_walk = λ n t u i j o p a b x y. same_whole n (near_at i) (probe_at j) (one-frame n t u i j o.on_slope p (no-zero-guess n t i o a x)) a b (guess-whole n t i o a x) (is_whole n u j p b y);
+  two_touches = λ n t u i j o p a b x y. same_whole n (near_at i) (near_at j) (one-frame n t u i j o.on_slope p.on_slope (no-zero-guess n t i o a x)) a b (guess-whole n t i o a x) (guess-whole n u j p b y);
+  wedge_touch = λ g n wedge p frame reach o r h.
+      rw h.is (one-touch n _ _ (record { on_slope = multiple-slope g n wedge p frame reach o.on_wedge (record { t = dot n (apex_of (of_wedge wedge p frame reach)); enough = o.above; least = o.first }); first_level = refl }));
+  stack_touch = λ n t stack bytes p frame reach o r h. rw h.is (one-touch n t _ o);
 }

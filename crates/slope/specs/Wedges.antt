@@ -7,10 +7,10 @@ use Rattle.integers.specs.Order.{parts, linear, atom, goal, fact, *ℤ-mono}
 use Rattle.rules.specs.declared.Vector.{Vector}
 use Rattle.rules.specs.declared.Wedge.{Wedge}
 use Rattle.rules.specs.Vectors.{dot}
-use Rattle.rules.specs.Solids.{filledWedge}
+use Rattle.rules.specs.Solids.{filled_wedge}
 use Rattle.laws.specs.Tests.{less, not-less, compared}
 use Rattle.laws.specs.Parts.{scale-dot}
-use Rattle.slope.specs.Demands.{ofWedge, OnWedge, OnSlope}
+use Rattle.slope.specs.Demands.{of_wedge, OnWedge, OnSlope}
 
 -- h/g, rounded up
 pub record Ceiling (g h : ℤ) : Type 0 where
@@ -74,14 +74,14 @@ module _ (g : ℤ) (one : pos 1 ≤ℤ g) where
           less (g *ℤ x) h (omega (arith, parts, *ℤ-mono from_zero k, c.least)) ∙ sym (less x c.t l)
       go (inr l) = not-less (g *ℤ x) h (omega (arith, parts, *ℤ-mono from_zero l, c.enough)) ∙ sym (not-less x c.t l)
 
-pub multiple-slope : (g : ℤ) (n : Vector) (wedge : Wedge) (p : Vector) (frame reach : ℤ) → OnWedge g n wedge p frame reach → (c : Ceiling g wedge.h) → OnSlope n c.t (ofWedge wedge p frame reach)
-unfolding filledWedge
+pub multiple-slope : (g : ℤ) (n : Vector) (wedge : Wedge) (p : Vector) (frame reach : ℤ) → OnWedge g n wedge p frame reach → (c : Ceiling g wedge.h) → OnSlope n c.t (of_wedge wedge p frame reach)
+unfolding filled_wedge
 multiple-slope g n wedge p frame reach o c = record {
   permitted = o.permitted;
   direction = o.direction;
-  filledBelow = λ v _. ap (λ (a : Vector). lt_z (dot a v) wedge.h) o.multiple ∙ ap (λ (z : ℤ). lt_z z wedge.h) (scale-dot n v g) ∙ same_test g o.atLeastOnce wedge.h c (dot n v);
+  filled_below = λ v _. ap (λ (a : Vector). lt_z (dot a v) wedge.h) o.multiple ∙ ap (λ (z : ℤ). lt_z z wedge.h) (scale-dot n v g) ∙ same_test g o.at_least_once wedge.h c (dot n v);
   touched = o.touched;
 }
 
-pub wedge-slope : (g : ℤ) (n : Vector) (wedge : Wedge) (p : Vector) (frame reach : ℤ) → OnWedge g n wedge p frame reach → (t : ℤ) × OnSlope n t (ofWedge wedge p frame reach)
-wedge-slope g n wedge p frame reach o = let c = ceiling g o.atLeastOnce wedge.h in (c.t, multiple-slope g n wedge p frame reach o c)
+pub wedge-slope : (g : ℤ) (n : Vector) (wedge : Wedge) (p : Vector) (frame reach : ℤ) → OnWedge g n wedge p frame reach → (t : ℤ) × OnSlope n t (of_wedge wedge p frame reach)
+wedge-slope g n wedge p frame reach o = let c = ceiling g o.at_least_once wedge.h in (c.t, multiple-slope g n wedge p frame reach o c)

@@ -4,7 +4,7 @@ use Rattle.integers.specs.Sizes.{Within}
 use Rattle.rules.specs.declared.Vector.{Vector}
 use Rattle.rules.specs.declared.Wedge.{Wedge}
 use Rattle.rules.specs.declared.Solid.{Solid}
-use Rattle.rules.specs.Solids.{permitted, box, inBox}
+use Rattle.rules.specs.Solids.{permitted, box, in_box}
 
 -- a permitted solid, with its lent bytes
 pub record PermittedSolid (s : Solid) (bytes : List ℕ) : Type 0 where
@@ -12,7 +12,7 @@ pub record PermittedSolid (s : Solid) (bytes : List ℕ) : Type 0 where
 
 -- a point of the solid's box
 pub record InBoxOf (s : Solid) (p : Vector) : Type 0 where
-  pub is : inBox (box s) p ≡ true
+  pub is : in_box (box s) p ≡ true
 
 -- a wedge whose products with the points of the box fit
 pub record WedgeAsks (w : Wedge) : Type 0 where

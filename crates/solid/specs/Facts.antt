@@ -10,7 +10,7 @@ use Rattle.rules.specs.declared.Solid.{Solid}
 use Rattle.rules.specs.declared.Solid.TheVariants.{Wedge as IsWedge}
 use Rattle.rules.specs.declared.Look.{Look}
 use Rattle.rules.specs.declared.Look.TheVariants.{Empty}
-use Rattle.rules.specs.Solids.{between, permittedWedge, look}
+use Rattle.rules.specs.Solids.{between, permitted_wedge, look}
 use Rattle.range.specs.Ranges.{between-within}
 use Rattle.laws.specs.Bounds.{Bounded}
 use Rattle.laws.specs.Ranges.{Between}
@@ -19,9 +19,9 @@ use Rattle.laws.specs.Boxes.{look-inside, look-as, solid-cube}
 use Rattle.solid.specs.Asks.{PermittedSolid, InBoxOf, WedgeAsks}
 
 pub wedge-asks : {w : Wedge} {bytes : List ℕ} → PermittedSolid (IsWedge w) bytes → WedgeAsks w
-unfolding permittedWedge
+unfolding permitted_wedge
 wedge-asks {w} h =
-    let t : T (permittedWedge w) = rw h.is tt in
+    let t : T (permitted_wedge w) = rw h.is tt in
     let a = and_yes (between (negsuc 999) w.a (pos 1000)) _ t in
     let b = and_yes (between (negsuc 999) w.b (pos 1000)) _ a.1 in
     let c = and_yes (between (negsuc 999) w.c (pos 1000)) _ b.1 in
@@ -36,7 +36,7 @@ wedge-asks {w} h =
 pub inside-bounded : {s : Solid} {bytes : List ℕ} {p : Vector} → PermittedSolid s bytes → InBoxOf s p → Bounded 1023 p
 inside-bounded {s} {bytes} {p} h i =
     let c = solid-cube s bytes (rw h.is tt) p (rw (look-inside s bytes p, i.is) tt) in
-    record { in-x = size c.ofX; in-y = size c.ofY; in-z = size c.of_z }
+    record { in-x = size c.of_x; in-y = size c.of_y; in-z = size c.of_z }
   where
     size : {x : ℤ} → Between 1023 x → Within 1023 x
     size h = omega (arith, parts, sizes)

@@ -1,11 +1,11 @@
 // The two solids behind one look.
 ghost use Rattle.std.specs.Prelude.{◌≡◌, ◌<◌, pos, true};
 ghost use Rattle.rules.specs.Vectors.{dot};
-ghost use Rattle.rules.specs.Solids.{permittedWedge, permitted, inSide, inBox, seenAs, look};
+ghost use Rattle.rules.specs.Solids.{permitted_wedge, permitted, in_side, in_box, seen_as, look};
 ghost use Rattle.laws.specs.Bounds.{Bounded};
-ghost use Rattle.axis.specs.Axes.{axisAt, withPart};
+ghost use Rattle.axis.specs.Axes.{axis_at, with_part};
 ghost use Rattle.solid.specs.Asks.{PermittedSolid, InBoxOf};
-ghost use Rattle.solid.specs.Grid.{gridOf, sideAt, sidesOf, ranksOf, GridRanks, filledAt, RankHeld};
+ghost use Rattle.solid.specs.Grid.{grid_of, side_at, sides_of, ranks_of, GridRanks, filled_at, RankHeld};
 
 use rules::{Look, Solid, Vector, Wedge};
 
@@ -13,7 +13,7 @@ use rules::{Look, Solid, Vector, Wedge};
 
 // Here and below `&` and not `&&`: no branch.
 fn is_permitted_wedge(w: Wedge) -> bool
-    ensures { result ≡ permittedWedge w }
+    ensures { result ≡ permitted_wedge w }
 {
     let a = range::is_between(-1000, w.a, 1000);
     let b = range::is_between(-1000, w.b, 1000);
@@ -44,7 +44,7 @@ pub struct Grid {
 
 pub fn grid_of(s: Solid, bytes: &[u8]) -> Grid
     requires { PermittedSolid s bytes.now }
-    ensures { result ≡ gridOf s }
+    ensures { result ≡ grid_of s }
 {
     match s {
         Solid::Wedge(w) => {
@@ -73,14 +73,14 @@ pub fn grid_of(s: Solid, bytes: &[u8]) -> Grid
 }
 
 fn is_in_side(side: u16, x: i32) -> bool
-    ensures { result ≡ inSide (pos side) x }
+    ensures { result ≡ in_side (pos side) x }
 {
     (0 <= x) & (x < (side as i32))
 }
 
 pub fn side_of(g: Grid, axis: u32) -> u16
     requires { axis < 3 }
-    ensures { result ≡ sideAt g (axisAt axis) }
+    ensures { result ≡ side_at g (axis_at axis) }
 {
     if axis == 0 {
         return g.width;
@@ -89,7 +89,7 @@ pub fn side_of(g: Grid, axis: u32) -> u16
 }
 
 pub fn is_inside(g: Grid, p: Vector) -> bool
-    ensures { result ≡ inBox (sidesOf g) p }
+    ensures { result ≡ in_box (sides_of g) p }
 {
     let x = is_in_side(g.width, p.x);
     let y = is_in_side(g.height, p.y);
@@ -111,7 +111,7 @@ pub fn rank_of(g: Grid, v: Vector) -> i32
 // Of a voxel in the box, by its rank.
 fn is_filled(s: Solid, bytes: &[u8], rank: i32) -> bool
     requires { RankHeld s bytes.now rank }
-    ensures { result ≡ filledAt s bytes.now rank }
+    ensures { result ≡ filled_at s bytes.now rank }
 {
     match s {
         Solid::Wedge(w) => rank < w.h,
@@ -123,7 +123,7 @@ fn is_filled(s: Solid, bytes: &[u8], rank: i32) -> bool
 
 fn see(s: Solid, bytes: &[u8], rank: i32) -> Look
     requires { RankHeld s bytes.now rank }
-    ensures { result ≡ seenAs true (filledAt s bytes.now rank) }
+    ensures { result ≡ seen_as true (filled_at s bytes.now rank) }
 {
     if is_filled(s, bytes, rank) {
         Look::Filled
@@ -133,7 +133,7 @@ fn see(s: Solid, bytes: &[u8], rank: i32) -> Look
 }
 
 pub fn look_at(s: Solid, g: Grid, bytes: &[u8], p: Vector) -> Look
-    requires { PermittedSolid s bytes.now × (g ≡ gridOf s) }
+    requires { PermittedSolid s bytes.now × (g ≡ grid_of s) }
     ensures { result ≡ look s bytes.now p }
 {
     if is_inside(g, p) {
@@ -145,7 +145,7 @@ pub fn look_at(s: Solid, g: Grid, bytes: &[u8], p: Vector) -> Look
 
 // The look at a point whose rank is at hand.
 pub fn look_ranked(s: Solid, g: Grid, bytes: &[u8], p: Vector, rank: i32) -> Look
-    requires { PermittedSolid s bytes.now × (g ≡ gridOf s) × (rank ≡ dot (ranksOf s) p) }
+    requires { PermittedSolid s bytes.now × (g ≡ grid_of s) × (rank ≡ dot (ranks_of s) p) }
     ensures { result ≡ look s bytes.now p }
 {
     if is_inside(g, p) {
@@ -164,8 +164,8 @@ pub fn look_along(
     z: i32,
     rank: i32,
 ) -> Look
-    requires { PermittedSolid s bytes.now × InBoxOf s q × (side ≡ sideAt (gridOf s) (axisAt axis)) × (rank ≡ dot (ranksOf s) (withPart q (axisAt axis) z)) }
-    ensures { result ≡ look s bytes.now (withPart q (axisAt axis) z) }
+    requires { PermittedSolid s bytes.now × InBoxOf s q × (side ≡ side_at (grid_of s) (axis_at axis)) × (rank ≡ dot (ranks_of s) (with_part q (axis_at axis) z)) }
+    ensures { result ≡ look s bytes.now (with_part q (axis_at axis) z) }
 {
     if is_in_side(side, z) {
         return see(s, bytes, rank);

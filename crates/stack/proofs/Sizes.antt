@@ -10,13 +10,13 @@ use mir.Facts.{Fits-le, Fits-lit}
 use Rattle.integers.specs.Machine.{natural-back}
 use Rattle.rules.specs.declared.Stack.{Stack}
 use Rattle.rules.specs.Vectors.{vector}
-use Rattle.rules.specs.Solids.{rowBytes, sliceBytes, stackBytes}
+use Rattle.rules.specs.Solids.{row_bytes, slice_bytes, stack_bytes}
 use Rattle.stack.specs.Sides.{Side, SidesOf, cast, side-kept, side-cast}
 use Rattle.stack.specs.Bytes.{SliceSides, RowBytes, SliceBytes}
-use Rattle.stack.specs.Bits.{stackRanks}
+use Rattle.stack.specs.Bits.{stack_ranks}
 
 pub row-bytes : {w : ℕ} → Side w → RowBytes w ((w + 7) / 8)
-unfolding rowBytes
+unfolding row_bytes
 row-bytes s = let a = s.some in let b = s.most in record { is = refl; some = omega arith; small = omega arith }
 
 module _ {w h b : ℕ} (s : SliceSides w h) (r : RowBytes w b) where
@@ -27,7 +27,7 @@ module _ {w h b : ℕ} (s : SliceSides w h) (r : RowBytes w b) where
   slice_fits = Fits-le slice-small (Fits-lit tt)
 
   pub slice-bytes : SliceBytes w h (h * b)
-  unfolding sliceBytes
+  unfolding slice_bytes
   slice-bytes = record { is = ap (λ (x : ℕ). h * x) r.is; small = slice-small }
 
 -- ---- the whole
@@ -39,14 +39,14 @@ module _ {k : Stack} (s : SidesOf k) where
     pub stack-fits : Fits w64 (cast k.depth * n)
     stack-fits = Fits-le (mul-le-mul (side-cast s.deep).most z.small) (Fits-lit tt)
 
-    pub stack-bytes : cast k.depth * n ≡ stackBytes k
-    unfolding stackBytes
-    stack-bytes = ap₂ ◌*◌ (side-kept s.deep) (z.is ∙ ap₂ sliceBytes (side-kept s.wide) (side-kept s.high))
+    pub stack-bytes : cast k.depth * n ≡ stack_bytes k
+    unfolding stack_bytes
+    stack-bytes = ap₂ ◌*◌ (side-kept s.deep) (z.is ∙ ap₂ slice_bytes (side-kept s.wide) (side-kept s.high))
 
     -- 8 bits a byte
-    pub ranks-are : {row : ℕ} → RowBytes (cast k.width) row → vector (pos 1) (to_z w32 (8 * row)) (to_z w32 (8 * n)) ≡ stackRanks k
-    unfolding stackRanks
+    pub ranks-are : {row : ℕ} → RowBytes (cast k.width) row → vector (pos 1) (to_z w32 (8 * row)) (to_z w32 (8 * n)) ≡ stack_ranks k
+    unfolding stack_ranks
     ranks-are {row} r =
-        let y = natural-back w32 (8 * row) 256 (omega (arith, r.small)) tt ∙ ap (λ (b : ℕ). pos (8 * b)) (r.is ∙ ap rowBytes (side-kept s.wide)) in
-        let x = natural-back w32 (8 * n) 65536 (omega (arith, z.small)) tt ∙ ap (λ (b : ℕ). pos (8 * b)) (z.is ∙ ap₂ sliceBytes (side-kept s.wide) (side-kept s.high)) in
+        let y = natural-back w32 (8 * row) 256 (omega (arith, r.small)) tt ∙ ap (λ (b : ℕ). pos (8 * b)) (r.is ∙ ap row_bytes (side-kept s.wide)) in
+        let x = natural-back w32 (8 * n) 65536 (omega (arith, z.small)) tt ∙ ap (λ (b : ℕ). pos (8 * b)) (z.is ∙ ap₂ slice_bytes (side-kept s.wide) (side-kept s.high)) in
         λ i. vector (pos 1) (y i) (x i)

@@ -6,21 +6,21 @@ use Rattle.rules.specs.declared.Vector.{Vector}
 use Rattle.rules.specs.declared.Stack.{Stack}
 use Rattle.rules.specs.declared.Look.{Look}
 use Rattle.rules.specs.declared.Solid.TheVariants.{Stack as IsStack}
-use Rattle.rules.specs.Solids.{permittedStack, voxel, filledStack, permitted, box, inBox, look}
+use Rattle.rules.specs.Solids.{permitted_stack, voxel, filled_stack, permitted, box, in_box, look}
 use Rattle.stack.specs.Sides.{sized, permitted-too}
 use Rattle.stack.specs.Voxels.{point-held, voxel-held, looks-alike}
 
 pub record Alike (k : Stack) (a b : List ℕ) : Type 0 where
-  pub permitted : permittedStack k a ≡ permittedStack k b
-  pub voxels : (v : Vector) → inBox (box (IsStack k)) v ≡ true → filledStack k a v ≡ filledStack k b v
+  pub permitted : permitted_stack k a ≡ permitted_stack k b
+  pub voxels : (v : Vector) → in_box (box (IsStack k)) v ≡ true → filled_stack k a v ≡ filled_stack k b v
 
 -- ---- bytes behind those needed
-module _ (k : Stack) (bytes : List ℕ) (ok : permittedStack k bytes ≡ true) (behind : List ℕ) where
-  voxel-alike : (v : Vector) → inBox (box (IsStack k)) v ≡ true → filledStack k (bytes ++ behind) v ≡ filledStack k bytes v
-  unfolding filledStack voxel
+module _ (k : Stack) (bytes : List ℕ) (ok : permitted_stack k bytes ≡ true) (behind : List ℕ) where
+  voxel-alike : (v : Vector) → in_box (box (IsStack k)) v ≡ true → filled_stack k (bytes ++ behind) v ≡ filled_stack k bytes v
+  unfolding filled_stack voxel
   voxel-alike v e = rw (get_or-append bytes behind 0 _ (voxel-held (point-held ok e)))
 
-  room-alike : permittedStack k (bytes ++ behind) ≡ permittedStack k bytes
+  room-alike : permitted_stack k (bytes ++ behind) ≡ permitted_stack k bytes
   room-alike = permitted-too k bytes (bytes ++ behind) ok (omega (arith, (sized ok).enough, length-append bytes behind)) ∙ sym ok
 
   pub behind-alike : Alike k (bytes ++ behind) bytes

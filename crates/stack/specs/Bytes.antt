@@ -1,6 +1,6 @@
 -- How many bytes rows and slices take.
 use Rattle.std.specs.Prelude.{◌≡◌, ℕ, ◌≤◌}
-use Rattle.rules.specs.Solids.{rowBytes, sliceBytes}
+use Rattle.rules.specs.Solids.{row_bytes, slice_bytes}
 use Rattle.stack.specs.Sides.{Side}
 
 -- the sides of a slice; it may have no row
@@ -9,10 +9,10 @@ pub record SliceSides (width height : ℕ) : Type 0 where
   pub high : height ≤ 256
 
 pub record RowBytes (width r : ℕ) : Type 0 where
-  pub is : r ≡ rowBytes width
+  pub is : r ≡ row_bytes width
   pub some : 1 ≤ r
   pub small : r ≤ 32
 
 pub record SliceBytes (width height r : ℕ) : Type 0 where
-  pub is : r ≡ sliceBytes width height
+  pub is : r ≡ slice_bytes width height
   pub small : r ≤ 8192

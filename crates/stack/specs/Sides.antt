@@ -1,4 +1,4 @@
--- A stack's sides, each from 1 to 256. What `permittedStack` judges is taken apart here and put together again.
+-- A stack's sides, each from 1 to 256. What `permitted_stack` judges is taken apart here and put together again.
 use Rattle.std.specs.Prelude.{◌≡◌, Bool, true, ◌&&◌, List, ℕ, ◌*◌, ◌^◌, ◌≤◌, T, leb, ltb, ℤ, pos, nat_abs, length, ◌≤ℤ◌}
 use Rattle.std.proofs.Common.{sym, ap, ◌∙◌, arith, le-leb, leb-true}
 use Rattle.std.proofs.Math.Bool.{and_assoc}
@@ -10,7 +10,7 @@ use Rattle.integers.specs.Sizes.{Within, within-parts}
 use Rattle.integers.specs.Machine.{machine, bounded-stands, back-stands, cast-holds, value}
 use Rattle.integers.specs.Tests.{both, first_of, second-of}
 use Rattle.rules.specs.declared.Stack.{Stack}
-use Rattle.rules.specs.Solids.{between, permittedSize, sliceBytes, stackBytes, permittedStack}
+use Rattle.rules.specs.Solids.{between, permitted_size, slice_bytes, stack_bytes, permitted_stack}
 use Rattle.rules.specs.P4.{sizes}
 use Rattle.range.specs.Ranges.{between-naturals}
 
@@ -37,7 +37,7 @@ pub record SidesOf (k : Stack) : Type 0 where
 -- a stack's sides, and that the lent bytes are enough
 pub record Sized (k : Stack) (bytes : List ℕ) : Type 0 where
   pub of : SidesOf k
-  pub enough : stackBytes k ≤ length bytes
+  pub enough : stack_bytes k ≤ length bytes
 
 pub stack_is : {k : Stack} → SidesOf k → k ≡ sizes (nat_abs k.width) (nat_abs k.height) (nat_abs k.depth)
 stack_is s = λ i. record { width = s.wide.is i; height = s.high.is i; depth = s.deep.is i }
@@ -45,49 +45,49 @@ stack_is s = λ i. record { width = s.wide.is i; height = s.high.is i; depth = s
 -- ---- what is permitted
 
 -- the three sizes, without the bytes
-unfoldable pub sizesPermitted : Stack → Bool
-sizesPermitted k = permittedSize k.width && (permittedSize k.height && permittedSize k.depth)
+unfoldable pub sizes_permitted : Stack → Bool
+sizes_permitted k = permitted_size k.width && (permitted_size k.height && permitted_size k.depth)
 
-pub permitted-stack : (k : Stack) (bytes : List ℕ) → permittedStack k bytes ≡ (sizesPermitted k && leb (stackBytes k) (length bytes))
-unfolding permittedStack sizesPermitted
+pub permitted-stack : (k : Stack) (bytes : List ℕ) → permitted_stack k bytes ≡ (sizes_permitted k && leb (stack_bytes k) (length bytes))
+unfolding permitted_stack sizes_permitted
 permitted-stack k bytes =
-    let w = permittedSize k.width in
-    let h = permittedSize k.height in
-    let d = permittedSize k.depth in
-    let l = leb (stackBytes k) (length bytes) in
+    let w = permitted_size k.width in
+    let h = permitted_size k.height in
+    let d = permitted_size k.depth in
+    let l = leb (stack_bytes k) (length bytes) in
     sym (and_assoc w (h && d) l ∙ ap (λ (t : Bool). w && t) (and_assoc h d l))
 
-side-of : {n : ℤ} → permittedSize n ≡ true → SideOf n
+side-of : {n : ℤ} → permitted_size n ≡ true → SideOf n
 side-of {n} e = let h = between-naturals 1 256 n (rw e tt) in record { is = h.2; side = record { some = h.0; most = h.1 } }
 
-pub sides-of : {k : Stack} → sizesPermitted k ≡ true → SidesOf k
-unfolding sizesPermitted
+pub sides-of : {k : Stack} → sizes_permitted k ≡ true → SidesOf k
+unfolding sizes_permitted
 sides-of {k} e =
-    let w = permittedSize k.width in
-    let h = permittedSize k.height in
-    let d = permittedSize k.depth in
+    let w = permitted_size k.width in
+    let h = permitted_size k.height in
+    let d = permitted_size k.depth in
     let m = second-of w (h && d) e in
     record { wide = side-of (first_of w (h && d) e); high = side-of (first_of h d m); deep = side-of (second-of h d m) }
 
-pub sized : {k : Stack} {bytes : List ℕ} → permittedStack k bytes ≡ true → Sized k bytes
+pub sized : {k : Stack} {bytes : List ℕ} → permitted_stack k bytes ≡ true → Sized k bytes
 sized {k} {bytes} e =
-    let l = leb (stackBytes k) (length bytes) in
+    let l = leb (stack_bytes k) (length bytes) in
     let f = sym (permitted-stack k bytes) ∙ e in
-    record { of = sides-of (first_of (sizesPermitted k) l f); enough = leb-true _ _ (second-of (sizesPermitted k) l f) }
+    record { of = sides-of (first_of (sizes_permitted k) l f); enough = leb-true _ _ (second-of (sizes_permitted k) l f) }
 
 -- and the other way
-pub permits : {w h d : ℕ} (bytes : List ℕ) → Sides w h d → d * sliceBytes w h ≤ length bytes → permittedStack (sizes w h d) bytes ≡ true
-unfolding between permittedStack stackBytes
+pub permits : {w h d : ℕ} (bytes : List ℕ) → Sides w h d → d * slice_bytes w h ≤ length bytes → permitted_stack (sizes w h d) bytes ≡ true
+unfolding between permitted_stack stack_bytes
 permits bytes s l = both (one s.wide) (both (one s.high) (both (one s.deep) (le-leb _ _ l)))
   where
-    one : {n : ℕ} → Side n → permittedSize (pos n) ≡ true
+    one : {n : ℕ} → Side n → permitted_size (pos n) ≡ true
     one {n} s = both (le-leb 1 n s.some) (le-leb n 256 s.most)
 
 -- other bytes, if they are enough
-pub permitted-too : (k : Stack) (bytes other : List ℕ) → permittedStack k bytes ≡ true → stackBytes k ≤ length other → permittedStack k other ≡ true
+pub permitted-too : (k : Stack) (bytes other : List ℕ) → permitted_stack k bytes ≡ true → stack_bytes k ≤ length other → permitted_stack k other ≡ true
 permitted-too k bytes other e l =
     permitted-stack k other
-    ∙ both (first_of (sizesPermitted k) (leb (stackBytes k) (length bytes)) (sym (permitted-stack k bytes) ∙ e)) (le-leb (stackBytes k) (length other) l)
+    ∙ both (first_of (sizes_permitted k) (leb (stack_bytes k) (length bytes)) (sym (permitted-stack k bytes) ∙ e)) (le-leb (stack_bytes k) (length other) l)
 
 -- ---- a side, cast to an unsigned width: the cast reads its bits, and keeps it
 abbrev pub cast : ℤ → ℕ

@@ -1,9 +1,9 @@
 // Stacks: how many bytes they take, which are permitted, and which voxels are filled.
 ghost use Rattle.std.specs.Prelude.{◌≡◌};
-ghost use Rattle.rules.specs.Solids.{stackBytes, permittedStack};
-ghost use Rattle.stack.specs.Sides.{Side, SidesOf, sizesPermitted};
+ghost use Rattle.rules.specs.Solids.{stack_bytes, permitted_stack};
+ghost use Rattle.stack.specs.Sides.{Side, SidesOf, sizes_permitted};
 ghost use Rattle.stack.specs.Bytes.{SliceSides, RowBytes, SliceBytes};
-ghost use Rattle.stack.specs.Bits.{stackRanks, bit_at, BitHeld};
+ghost use Rattle.stack.specs.Bits.{stack_ranks, bit_at, BitHeld};
 
 use rules::{Stack, Vector};
 
@@ -25,7 +25,7 @@ pub fn slice_bytes(width: usize, height: usize) -> usize
 
 fn stack_bytes(k: Stack) -> usize
     requires { SidesOf k }
-    ensures { result ≡ stackBytes k }
+    ensures { result ≡ stack_bytes k }
 {
     let width = k.width as usize;
     let height = k.height as usize;
@@ -38,7 +38,7 @@ fn stack_bytes(k: Stack) -> usize
 
 // Here and below `&` and not `&&`: no branch.
 fn has_sizes(k: Stack) -> bool
-    ensures { result ≡ sizesPermitted k }
+    ensures { result ≡ sizes_permitted k }
 {
     let width = range::is_between(1, k.width, 256);
     let height = range::is_between(1, k.height, 256);
@@ -48,7 +48,7 @@ fn has_sizes(k: Stack) -> bool
 
 // The sizes are judged before they are multiplied.
 pub fn is_permitted(k: Stack, bytes: &[u8]) -> bool
-    ensures { result ≡ permittedStack k bytes.now }
+    ensures { result ≡ permitted_stack k bytes.now }
 {
     if has_sizes(k) {
         stack_bytes(k) <= bytes.len()
@@ -62,7 +62,7 @@ pub fn is_permitted(k: Stack, bytes: &[u8]) -> bool
 // A voxel's bit, counted from the first byte's highest, is its product with this: the bits of a column, of a row and of a slice.
 pub fn ranks_of(k: Stack) -> Vector
     requires { SidesOf k }
-    ensures { result ≡ stackRanks k }
+    ensures { result ≡ stack_ranks k }
 {
     let width = k.width as usize;
     let height = k.height as usize;

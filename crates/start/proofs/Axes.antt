@@ -8,38 +8,38 @@ use Rattle.rules.specs.declared.Vector.{Vector}
 use Rattle.rules.specs.declared.Levels.{Levels}
 use Rattle.rules.specs.declared.Refused.{Refused}
 use Rattle.rules.specs.Vectors.{minus, lay, unit0}
-use Rattle.rules.specs.Walk.{allLevel, Probe, falls, isLevel}
+use Rattle.rules.specs.Walk.{all_level, Probe, falls, is_level}
 use Rattle.laws.specs.Tally.{Gives, then-yes, then-no, asked-yes, asked-no, ensured, not-ensured, at_once}
 use Rattle.falls.specs.declared.Falls.{Falls}
 use Rattle.falls.specs.declared.Falls.TheVariants.{Fell, Kept, Stopped}
-use Rattle.falls.specs.Falls.{Fallen, fallsTally, fallsLooks}
-use Rattle.refusals.specs.Refusals.{refusalOf}
+use Rattle.falls.specs.Falls.{Fallen, falls_tally, falls_looks}
+use Rattle.refusals.specs.Refusals.{refusal_of}
 use Rattle.facing.specs.Facing.{CornerAt}
-use Rattle.start.specs.Start.{axisRefusal, levelsJudged, opposite, Opposed, LevelsJudged, MinusAsked, OppositeAsked, AxisJudged}
+use Rattle.start.specs.Start.{axis_refusal, levels_judged, opposite, Opposed, LevelsJudged, MinusAsked, OppositeAsked, AxisJudged}
 use Rattle.start.specs.declared.AxisAnswer.{AxisAnswer}
 use Rattle.start.specs.declared.AxisAnswer.TheVariants.{Asked as IsAsked, Refused as AxisRefused}
 use Rattle.start.specs.declared.Start.TheVariants.{Begun, Refused as IsRefused}
 
-abbrev looksIn : Refused → ℕ
-looksIn r = r.looks
+abbrev looks_in : Refused → ℕ
+looks_in r = r.looks
 
 -- what the falls question gave, of the vector w, once its answer is known
-gave : (w : Vector) {c : Probe} {u : Vector} {n : ℕ} {f : Falls} (g : Falls) → Fallen c u n f → u ≡ w → f ≡ g → Gives n (falls c w) (fallsTally g)
+gave : (w : Vector) {c : Probe} {u : Vector} {n : ℕ} {f : Falls} (g : Falls) → Fallen c u n f → u ≡ w → f ≡ g → Gives n (falls c w) (falls_tally g)
 gave w g h a i = rw (← a, ← i) h.gives
 
 -- ---- the opposite, from what the falls question promised
 module _ {c : Probe} {e : Vector} {n : ℕ} {f : Falls} {u : Vector} (h : Fallen c u n f) (a : u ≡ lay c.signs e) where
   pub opposite-fell : {k : ℕ} {r : Refused} → f ≡ Fell k → Opposed c.apex c.signs e k r → OppositeAsked c e n (AxisRefused r)
   unfolding opposite
-  opposite-fell {k} i l = record { gives = rw l.is (then-yes _ (asked-yes 0 (gave (lay c.signs e) (Fell k) h a i)) (then-no _ (not-ensured refl))); few = omega (arith, h.few, ap fallsLooks i, ap looksIn l.is) }
+  opposite-fell {k} i l = record { gives = rw l.is (then-yes _ (asked-yes 0 (gave (lay c.signs e) (Fell k) h a i)) (then-no _ (not-ensured refl))); few = omega (arith, h.few, ap falls_looks i, ap looks_in l.is) }
 
   pub opposite-kept : {k : ℕ} → f ≡ Kept k → OppositeAsked c e n (IsAsked true k)
   unfolding opposite
-  opposite-kept {k} i = record { gives = then-yes _ (asked-yes 0 (gave (lay c.signs e) (Kept k) h a i)) (then-yes _ (ensured (axisRefusal c.apex c.signs e) refl) at_once); few = omega (arith, h.few, ap fallsLooks i) }
+  opposite-kept {k} i = record { gives = then-yes _ (asked-yes 0 (gave (lay c.signs e) (Kept k) h a i)) (then-yes _ (ensured (axis_refusal c.apex c.signs e) refl) at_once); few = omega (arith, h.few, ap falls_looks i) }
 
-  pub opposite-stopped : {k : ℕ} {p : Vector} {r : Refused} → f ≡ Stopped p k → r ≡ refusalOf 8 p 0 k → OppositeAsked c e n (AxisRefused r)
+  pub opposite-stopped : {k : ℕ} {p : Vector} {r : Refused} → f ≡ Stopped p k → r ≡ refusal_of 8 p 0 k → OppositeAsked c e n (AxisRefused r)
   unfolding opposite
-  opposite-stopped {k} {p} i l = record { gives = rw l (then-no _ (asked-no 0 (gave (lay c.signs e) (Stopped p k) h a i))); few = omega (arith, h.few, ap fallsLooks i, ap looksIn l) }
+  opposite-stopped {k} {p} i l = record { gives = rw l (then-no _ (asked-no 0 (gave (lay c.signs e) (Stopped p k) h a i))); few = omega (arith, h.few, ap falls_looks i, ap looks_in l) }
 
 -- ---- one axis, from what the question of minus its unit vector gave
 pub minus-asked : {c : Probe} {e : Vector} {n : ℕ} {f : Falls} {u : Vector} → u ≡ lay c.signs (minus e) → Fallen c u n f → MinusAsked c e n f
@@ -47,36 +47,36 @@ minus-asked a h = record { gives = rw a at h.gives; few = h.few }
 
 module _ {c : Probe} {e : Vector} {f : Falls} where
   pub axis-fell : {k : ℕ} → f ≡ Fell k → AxisJudged c e f (IsAsked false k)
-  unfolding isLevel
-  axis-fell i = record { gives = λ h. then-yes _ (asked-yes 0 (rw i at h.gives)) at_once; few = omega (arith, ap fallsLooks i) }
+  unfolding is_level
+  axis-fell i = record { gives = λ h. then-yes _ (asked-yes 0 (rw i at h.gives)) at_once; few = omega (arith, ap falls_looks i) }
 
   pub axis-kept : {k : ℕ} {r : AxisAnswer} → f ≡ Kept k → OppositeAsked c e k r → AxisJudged c e f r
-  unfolding isLevel opposite
-  axis-kept i o = record { gives = λ h. then-yes _ (asked-yes 0 (rw i at h.gives)) o.gives; few = omega (arith, ap fallsLooks i, o.few) }
+  unfolding is_level opposite
+  axis-kept i o = record { gives = λ h. then-yes _ (asked-yes 0 (rw i at h.gives)) o.gives; few = omega (arith, ap falls_looks i, o.few) }
 
-  pub axis-stopped : {k : ℕ} {p : Vector} {r : Refused} → f ≡ Stopped p k → r ≡ refusalOf 8 p 0 k → AxisJudged c e f (AxisRefused r)
-  unfolding isLevel
-  axis-stopped i l = record { gives = λ h. rw l (then-no _ (asked-no 0 (rw i at h.gives))); few = omega (arith, ap fallsLooks i, ap looksIn l) }
+  pub axis-stopped : {k : ℕ} {p : Vector} {r : Refused} → f ≡ Stopped p k → r ≡ refusal_of 8 p 0 k → AxisJudged c e f (AxisRefused r)
+  unfolding is_level
+  axis-stopped i l = record { gives = λ h. rw l (then-no _ (asked-no 0 (rw i at h.gives))); few = omega (arith, ap falls_looks i, ap looks_in l) }
 
 pub ruleset judging-axis = (axis-fell, axis-kept, axis-stopped)
 
 -- ---- refusal 7, at the corner
-pub is-opposed : {q s e p : Vector} {n : ℕ} {r : Refused} → CornerAt q s e p → r ≡ refusalOf 7 p 0 n → Opposed q s e n r
+pub is-opposed : {q s e p : Vector} {n : ℕ} {r : Refused} → CornerAt q s e p → r ≡ refusal_of 7 p 0 n → Opposed q s e n r
 is-opposed i l = record { is = rw (← i.is) l }
 
 pub opposed-at : {q s e u : Vector} {n : ℕ} {r : Refused} → u ≡ e → Opposed q s u n r → Opposed q s e n r
 opposed-at i h = rw (← i) h
 
 -- ---- all three level, or not
-not-all : (v : Levels) {b : Bool} → (v.x && (v.y && v.z)) ≡ b → not (allLevel v) ≡ not b
-unfolding allLevel
+not-all : (v : Levels) {b : Bool} → (v.x && (v.y && v.z)) ≡ b → not (all_level v) ≡ not b
+unfolding all_level
 not-all v e = ap not e
 
 module _ {q s : Vector} (v : Levels) {n : ℕ} where
   pub judged-level : {r : Refused} → (v.x && (v.y && v.z)) ≡ true → Opposed q s unit0 n r → LevelsJudged q s v n (IsRefused r)
-  unfolding levelsJudged
-  judged-level t l = record { gives = rw l.is (then-no _ (not-ensured (not-all v t))); few = omega (arith, ap looksIn l.is) }
+  unfolding levels_judged
+  judged-level t l = record { gives = rw l.is (then-no _ (not-ensured (not-all v t))); few = omega (arith, ap looks_in l.is) }
 
   pub judged-begun : (v.x && (v.y && v.z)) ≡ false → LevelsJudged q s v n (Begun v n)
-  unfolding levelsJudged
-  judged-begun t = record { gives = then-yes _ (ensured (axisRefusal q s unit0) (not-all v t)) at_once; few = omega arith }
+  unfolding levels_judged
+  judged-begun t = record { gives = then-yes _ (ensured (axis_refusal q s unit0) (not-all v t)) at_once; few = omega arith }

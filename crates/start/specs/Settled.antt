@@ -4,16 +4,16 @@ use Rattle.rules.specs.declared.Vector.{Vector}
 use Rattle.rules.specs.declared.Levels.{Levels}
 use Rattle.rules.specs.Walk.{Stop, Probe}
 use Rattle.laws.specs.Tally.{Tally, yes, no, gives-settled}
-use Rattle.rules.specs.Pick.{refusedAnswer}
+use Rattle.rules.specs.Pick.{refused_answer}
 use Rattle.start.specs.declared.Start.{Start}
 use Rattle.start.specs.declared.Start.TheVariants.{Begun, Refused as IsRefused}
-use Rattle.start.specs.Start.{startTally, Started}
+use Rattle.start.specs.Start.{start_tally, Started}
 
 made : Tally Stop Levels → Start
 made (yes v k) = Begun v k
-made (no s k) = IsRefused (refusedAnswer s k)
+made (no s k) = IsRefused (refused_answer s k)
 
-made_again : (r : Start) → made (startTally r) ≡ r
+made_again : (r : Start) → made (start_tally r) ≡ r
 unfolding made
 made_again (Begun v k) = refl
 made_again (IsRefused r) = refl

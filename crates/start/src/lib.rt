@@ -4,11 +4,11 @@ ghost use Rattle.rules.specs.Walk.{unit};
 ghost use Rattle.laws.specs.Bounds.{Bounded};
 ghost use Rattle.laws.specs.Frames.{Signs};
 ghost use Rattle.laws.specs.Tally.{Countable};
-ghost use Rattle.falls.specs.Scene.{probeOf, Ready};
-ghost use Rattle.falls.specs.Falls.{fallsLooks};
+ghost use Rattle.falls.specs.Scene.{probe_of, Ready};
+ghost use Rattle.falls.specs.Falls.{falls_looks};
 ghost use Rattle.along.specs.Lines.{LineIn};
-ghost use Rattle.axis.specs.Axes.{axisAt};
-ghost use Rattle.start.specs.Start.{Opposed, MinusAsked, OppositeAsked, AxisJudged, LevelsJudged, withLevel, told, AxesAsked, quickly, Started};
+ghost use Rattle.axis.specs.Axes.{axis_at};
+ghost use Rattle.start.specs.Start.{Opposed, MinusAsked, OppositeAsked, AxisJudged, LevelsJudged, with_level, told, AxesAsked, quickly, Started};
 
 use along::Line;
 use facing::Cleared;
@@ -43,7 +43,7 @@ fn refuse_axis(scene: Scene, e: Vector, looks: u32) -> Refused
 // Whether minus the unit vector of a line's axis falls.
 fn ask_minus(scene: Scene, bytes: &[u8], line: Line, looks: u32) -> Falls
     requires { Ready scene bytes.now × LineIn scene line × Countable 1 looks }
-    ensures { MinusAsked (probeOf scene bytes.now) (unit (axisAt line.axis)) looks result }
+    ensures { MinusAsked (probe_of scene bytes.now) (unit (axis_at line.axis)) looks result }
 {
     along::ask_along(scene, bytes, along::turn(line), looks)
 }
@@ -51,7 +51,7 @@ fn ask_minus(scene: Scene, bytes: &[u8], line: Line, looks: u32) -> Falls
 // Minus the unit vector doesn't fall, so its opposite is asked too: refusal 7 if that falls, else the axis is level.
 fn ask_opposite(scene: Scene, bytes: &[u8], line: Line, looks: u32) -> AxisAnswer
     requires { Ready scene bytes.now × LineIn scene line × Countable 1 looks }
-    ensures { OppositeAsked (probeOf scene bytes.now) (unit (axisAt line.axis)) looks result }
+    ensures { OppositeAsked (probe_of scene bytes.now) (unit (axis_at line.axis)) looks result }
 {
     let f = along::ask_along(scene, bytes, line, looks);
     match f {
@@ -67,8 +67,8 @@ fn ask_opposite(scene: Scene, bytes: &[u8], line: Line, looks: u32) -> AxisAnswe
 
 // Whether the axis of a line is level, once minus its unit vector was asked.
 fn judge_axis(scene: Scene, bytes: &[u8], line: Line, asked: Falls) -> AxisAnswer
-    requires { Ready scene bytes.now × LineIn scene line × Countable 1 (fallsLooks asked) }
-    ensures { AxisJudged (probeOf scene bytes.now) (unit (axisAt line.axis)) asked result }
+    requires { Ready scene bytes.now × LineIn scene line × Countable 1 (falls_looks asked) }
+    ensures { AxisJudged (probe_of scene bytes.now) (unit (axis_at line.axis)) asked result }
 {
     match asked {
         Falls::Fell(n) => AxisAnswer::Asked(false, n),
@@ -89,7 +89,7 @@ fn tell(own: bool, is: bool, old: bool) -> bool
 // The levels with one axis told.
 fn with_level(level: Levels, axis: u32, is: bool) -> Levels
     requires { axis < 3 }
-    ensures { result ≡ withLevel level (axisAt axis) is }
+    ensures { result ≡ with_level level (axis_at axis) is }
 {
     let x = tell(axis == 0, is, level.x);
     let y = tell(axis == 1, is, level.y);
@@ -113,7 +113,7 @@ fn judge_levels(scene: Scene, level: Levels, looks: u32) -> Start
 // Axis 0, 1, 2. In a loop and not written out three times: a typical check takes about a quarter less.
 fn ask_axes(scene: Scene, bytes: &[u8], looks: u32) -> Start
     requires { Ready scene bytes.now × Countable 6 looks }
-    ensures { AxesAsked (probeOf scene bytes.now) looks result }
+    ensures { AxesAsked (probe_of scene bytes.now) looks result }
 {
     let mut level = Levels {
         x: false,
@@ -161,7 +161,7 @@ fn start_quickly(cleared: Cleared) -> Start
 // p and q, then the axes; of a quick touch the corners instead.
 pub fn start_at(quick: bool, scene: Scene, bytes: &[u8], p: Vector) -> Start
     requires { Ready scene bytes.now }
-    ensures { Started quick (probeOf scene bytes.now) p result }
+    ensures { Started quick (probe_of scene bytes.now) p result }
 {
     let faced = facing::face(scene, bytes, p);
     match faced {

@@ -2,10 +2,10 @@
 use Rattle.std.specs.Prelude.{◌≡◌, refl, Bool, true, false, List, [], ◌∷◌, ◌++◌, ℕ, zero, suc, ◌/◌, ◌^◌, ◌≤◌, ◌<◌, leb, ltb, ℤ, pos, negsuc, nat_abs, length}
 use Rattle.std.proofs.Common.{sym, ap, ◌∙◌, pow-suc, arith, length-append, lt-ltb, le-ltb, leb-true, ltb-true, ltb-false}
 use Rattle.integers.specs.Tests.{first_of, second-of}
-use Rattle.rules.specs.Decimals.{isDigit, figure, digits, decimal, signedDecimal}
+use Rattle.rules.specs.Decimals.{is_digit, figure, digits, decimal, signed_decimal}
 
-pub digit-range : (b : ℕ) → isDigit b ≡ true → (48 ≤ b) × (b ≤ 57)
-unfolding isDigit
+pub digit-range : (b : ℕ) → is_digit b ≡ true → (48 ≤ b) × (b ≤ 57)
+unfolding is_digit
 digit-range b e = (leb-true 48 b (first_of (leb 48 b) (leb b 57) e), leb-true b 57 (second-of (leb 48 b) (leb b 57) e))
 
 one-digit : (f n : ℕ) → n < 10 → digits f n ≡ figure n ∷ []
@@ -51,6 +51,6 @@ decimal-length (suc k) n h = by (ltb n 10) refl (decimal-length k (n / 10))
         let m = length-append (decimal (n / 10)) (figure n ∷ []) in
         omega (arith, ap length (decimal-more n (ltb-false n 10 e)))
 
-pub signed-length : (k : ℕ) (z : ℤ) → nat_abs z < 10 ^ suc k → length (signedDecimal z) ≤ suc (suc k)
+pub signed-length : (k : ℕ) (z : ℤ) → nat_abs z < 10 ^ suc k → length (signed_decimal z) ≤ suc (suc k)
 signed-length k (pos n) h = omega (arith, decimal-length k n h)
 signed-length k (negsuc n) h = omega (arith, decimal-length k (suc n) h)

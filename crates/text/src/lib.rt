@@ -1,6 +1,6 @@
 // Decimal digits; bytes and decimal numbers written into a lent buffer, one after another: each `put` answers the place behind what it wrote.
 ghost use Rattle.std.specs.Prelude.{◌≡◌};
-ghost use Rattle.rules.specs.Decimals.{isDigit, figure, decimal, signedDecimal};
+ghost use Rattle.rules.specs.Decimals.{is_digit, figure, decimal, signed_decimal};
 ghost use Rattle.text.specs.Put.{Room, Put};
 
 pub fn put(out: &mut [u8], at: usize, bytes: &[u8]) -> usize
@@ -18,7 +18,7 @@ pub fn put(out: &mut [u8], at: usize, bytes: &[u8]) -> usize
 }
 
 pub fn is_digit(b: u8) -> bool
-    ensures { result ≡ isDigit b }
+    ensures { result ≡ is_digit b }
 {
     if b < 48 {
         return false;
@@ -45,8 +45,8 @@ pub fn put_number(out: &mut [u8], at: usize, n: u32) -> usize
 }
 
 pub fn put_signed(out: &mut [u8], at: usize, z: i32) -> usize
-    requires { Room out.old at (signedDecimal z) }
-    ensures { Put out.old at (signedDecimal z) out.new result }
+    requires { Room out.old at (signed_decimal z) }
+    ensures { Put out.old at (signed_decimal z) out.new result }
 {
     let size = size::size_of(z);
     if z < 0 {

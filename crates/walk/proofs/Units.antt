@@ -19,23 +19,23 @@ use Rattle.laws.specs.Bounds.{Bounded}
 use Rattle.falls.specs.declared.Scene.{Scene}
 use Rattle.falls.specs.Scene.{Ready}
 use Rattle.falls.specs.Sizes.{sign-bounded, scene-ranks}
-use Rattle.choice.specs.Numbers.{fromBits}
+use Rattle.choice.specs.Numbers.{from_bits}
 use Rattle.walk.specs.Walk.{Units}
 
 -- ---- as the code computes
 module _ {a b : ℤ} (s : IsSign a) (h : Within 65536 b) where
-  pub rank-fits : SFits w32 (fromBits a *ℤ fromBits b)
+  pub rank-fits : SFits w32 (from_bits a *ℤ from_bits b)
   rank-fits = let k = sign-bounded a s in fits (search machine depth 30 fits 5000) tt
 
-  rank-read : fromBits (fromBits a *ℤ fromBits b) ≡ a *ℤ b
+  rank-read : from_bits (from_bits a *ℤ from_bits b) ≡ a *ℤ b
   rank-read = let k = sign-bounded a s in value (search machine depth 30 fits 5000) tt
 
-sign_read : {a : ℤ} → IsSign a → fromBits a ≡ a
+sign_read : {a : ℤ} → IsSign a → from_bits a ≡ a
 sign_read {a} s = let k = sign-bounded a s in value (search machine depth 30 fits 5000) tt
 
 -- ---- as they are
-abbrev unitsWith : Vector → Vector → List ℤ
-unitsWith s p = s.x ∷ pos 0 ∷ pos 0 ∷ p.x ∷ pos 0 ∷ s.y ∷ pos 0 ∷ p.y ∷ pos 0 ∷ pos 0 ∷ s.z ∷ p.z ∷ []
+abbrev units_with : Vector → Vector → List ℤ
+units_with s p = s.x ∷ pos 0 ∷ pos 0 ∷ p.x ∷ pos 0 ∷ s.y ∷ pos 0 ∷ p.y ∷ pos 0 ∷ pos 0 ∷ s.z ∷ p.z ∷ []
 
 square : (a : ℤ) → IsSign a → a *ℤ a ≡ pos 1
 square a (inl e) = rw e
@@ -44,10 +44,10 @@ square a (inr e) = rw e
 nothing : (a : ℤ) → a *ℤ pos 0 ≡ pos 0
 nothing a = byring (a ∷ []) (search sides depth 40 fits 5000) tt
 
-units-are : (s r : Vector) → Signs s → Units s r (unitsWith s (lay s r))
+units-are : (s r : Vector) → Signs s → Units s r (units_with s (lay s r))
 unfolding lay dot
 units-are s r g = record {
-  are = λ i. triangle (vector (square s.x g.ofX i) (nothing s.y i) (nothing s.z i)) (vector (nothing s.x i) (square s.y g.ofY i) (nothing s.z i)) (vector (nothing s.x i) (nothing s.y i) (square s.z g.of_z i));
+  are = λ i. triangle (vector (square s.x g.of_x i) (nothing s.y i) (nothing s.z i)) (vector (nothing s.x i) (square s.y g.of_y i) (nothing s.z i)) (vector (nothing s.x i) (nothing s.y i) (square s.z g.of_z i));
   ranked = record {
     rank0 = byring (s.x ∷ r.x ∷ r.y ∷ r.z ∷ []) (search sides depth 40 fits 5000) tt;
     rank1 = byring (s.y ∷ r.x ∷ r.y ∷ r.z ∷ []) (search sides depth 40 fits 5000) tt;
@@ -57,9 +57,9 @@ units-are s r g = record {
 }
 
 pub units-made : {s r : Vector} → Signs s → Bounded 65536 r
-    → Units s r (unitsWith (vector (fromBits s.x) (fromBits s.y) (fromBits s.z)) (vector (fromBits (fromBits s.x *ℤ fromBits r.x)) (fromBits (fromBits s.y *ℤ fromBits r.y)) (fromBits (fromBits s.z *ℤ fromBits r.z))))
+    → Units s r (units_with (vector (from_bits s.x) (from_bits s.y) (from_bits s.z)) (vector (from_bits (from_bits s.x *ℤ from_bits r.x)) (from_bits (from_bits s.y *ℤ from_bits r.y)) (from_bits (from_bits s.z *ℤ from_bits r.z))))
 unfolding lay
-units-made {s} {r} g h = rw (rank-read g.ofX h.in-x, rank-read g.ofY h.in-y, rank-read g.of_z h.in-z, sign_read g.ofX, sign_read g.ofY, sign_read g.of_z) (units-are s r g)
+units-made {s} {r} g h = rw (rank-read g.of_x h.in-x, rank-read g.of_y h.in-y, rank-read g.of_z h.in-z, sign_read g.of_x, sign_read g.of_y, sign_read g.of_z) (units-are s r g)
 
 -- ---- what a scene has of them
 pub scene-fits : {v : Scene} {bytes : List ℕ} → Ready v bytes → Signs v.signs × Bounded 65536 v.grid.ranks

@@ -16,13 +16,13 @@ use Rattle.rules.specs.declared.Choice.TheVariants.{Nothing, Chosen}
 use Rattle.rules.specs.declared.Refused.{Refused}
 use Rattle.rules.specs.Vectors.{det, cross, dot}
 use Rattle.rules.specs.Walk.{Stop, stop, units, pairs, step, Probe, round, walk, rounds}
-use Rattle.laws.specs.Triples.{All, detOf, step-det}
+use Rattle.laws.specs.Triples.{All, det_of, step-det}
 use Rattle.laws.specs.Boxes.{look-inside, units-within, chosen-within}
 use Rattle.laws.specs.Bounds.{Bounded}
 use Rattle.laws.specs.Tally.{Tally, yes, no, Gives, then-yes, then-no, asked-yes, asked-no, at_once, refused-at-once, was-answered}
-use Rattle.solid.specs.Grid.{ranksOf}
+use Rattle.solid.specs.Grid.{ranks_of}
 use Rattle.falls.specs.declared.Scene.{Scene}
-use Rattle.falls.specs.Scene.{probeOf, Ready}
+use Rattle.falls.specs.Scene.{probe_of, Ready}
 use Rattle.falls.specs.Sizes.{scene-rank}
 use Rattle.choice.specs.declared.Best.{Best}
 use Rattle.choice.specs.Best.{pair_at}
@@ -31,10 +31,10 @@ use Rattle.choice.specs.Numbers.{chosen_at}
 use Rattle.choice.specs.Lighter.{Weighs}
 use Rattle.round.specs.declared.Round.{Round}
 use Rattle.round.specs.declared.Round.TheVariants.{Asked as IsAsked, Stopped}
-use Rattle.round.specs.Corners.{cornerAt, cornersIn, triangleIn, stepped, Ranked, Small, small, stepped-whole, stepped-ranked, stepped-triangle}
-use Rattle.round.specs.Round.{roundTally, roundLooks, taking, RoundAsked}
+use Rattle.round.specs.Corners.{corner_at, corners_in, triangle_in, stepped, Ranked, Small, small, stepped-whole, stepped-ranked, stepped-triangle}
+use Rattle.round.specs.Round.{round_tally, round_looks, taking, RoundAsked}
 use Rattle.walk.specs.declared.Walked.TheVariants.{Ended, Refused as IsRefused}
-use Rattle.refusals.specs.Refusals.{refusalOf}
+use Rattle.refusals.specs.Refusals.{refusal_of}
 use Rattle.walk.specs.Walk.{Units, allowed, Walks, Walking}
 
 module _ (c : Probe) (ps : List Pair) (m : Triangle) (n k : ℕ) where
@@ -57,7 +57,7 @@ module _ (c : Probe) (ps : List Pair) (m : Triangle) (n k : ℕ) where
   walk-on left h g = then-yes _ (asked-yes n h) g
 
 -- ---- the triangle stays sound
-sound-of : {m : Triangle} → All (Bounded 1023) m → detOf m ≡ pos 1 → Sound m
+sound-of : {m : Triangle} → All (Bounded 1023) m → det_of m ≡ pos 1 → Sound m
 sound-of h d = record { in0 = h.of0; in1 = h.of1; in2 = h.of2; unimodular = d }
 
 units-sound : Sound units
@@ -67,9 +67,9 @@ units-sound = sound-of units-within refl
 yes_true : {b : Bool} → b ≡ true → T b
 yes_true e = rw e tt
 
-step-sound : {v : Scene} {bytes : List ℕ} (ps : List Pair) {m : Triangle} {x : Pair} {n k : ℕ} → Ready v bytes → Sound m → Gives n (round (probeOf v bytes) ps m) (yes (Chosen x) k) → Sound (step m x)
+step-sound : {v : Scene} {bytes : List ℕ} (ps : List Pair) {m : Triangle} {x : Pair} {n k : ℕ} → Ready v bytes → Sound m → Gives n (round (probe_of v bytes) ps m) (yes (Chosen x) k) → Sound (step m x)
 step-sound {v} {bytes} ps {m} {x} h o g =
-    let answer = was-answered (round (probeOf v bytes) ps m) g in
+    let answer = was-answered (round (probe_of v bytes) ps m) g in
     sound-of
     (chosen-within v.solid bytes v.apex v.signs v.span ps m (yes_true h.permitted.is) (yes_true (look-inside v.solid bytes v.apex ∙ h.placed.is)) h.signed x answer.1
     record { of0 = o.in0; of1 = o.in1; of2 = o.in2 })
@@ -79,8 +79,8 @@ step-sound {v} {bytes} ps {m} {x} h o g =
 -- before a round, with the array ms
 module _ (v : Scene) (bytes : List ℕ) (level : Levels) (looks : ℕ) where
   pub record Going (ms : List ℤ) (steps n : ℕ) : Type 0 where
-    pub walking : Walking (probeOf v bytes) v.reach level looks (triangleIn v.signs ms) steps n
-    pub ranked : Ranked (ranksOf v.solid) ms
+    pub walking : Walking (probe_of v bytes) v.reach level looks (triangle_in v.signs ms) steps n
+    pub ranked : Ranked (ranks_of v.solid) ms
     pub whole : length ms ≡ 12
 
 walk_begins : {c : Probe} {R : ℕ} {level : Levels} {looks : ℕ} {m : Triangle} → R ≤ 256 → m ≡ units → Walking c R level looks m 0 looks
@@ -98,52 +98,52 @@ going-begins {ms = ms} ready h =
     let k = h.ranked in
     record {
       walking = walk_begins ready.reach-high h.are;
-      ranked = record { rank0 = scene-rank (cornerAt ms 0) ready k.rank0; rank1 = scene-rank (cornerAt ms 1) ready k.rank1; rank2 = scene-rank (cornerAt ms 2) ready k.rank2 };
+      ranked = record { rank0 = scene-rank (corner_at ms 0) ready k.rank0; rank1 = scene-rank (corner_at ms 1) ready k.rank1; rank2 = scene-rank (corner_at ms 2) ready k.rank2 };
       whole = h.whole;
     }
 
 pub going-small : {v : Scene} {bytes : List ℕ} {level : Levels} {looks : ℕ} {ms : List ℤ} {steps n : ℕ} → Ready v bytes → Going v bytes level looks ms steps n → Small ms
 going-small {ms = ms} ready h = small ms ready h.walking.sound h.ranked
 
-module _ {v : Scene} {bytes : List ℕ} {level : Levels} {looks : ℕ} {ms : List ℤ} {steps n : ℕ} {r : Round} (going : Going v bytes level looks ms steps n) (g : RoundAsked (probeOf v bytes) (triangleIn v.signs ms) level n r) where
-  abbrev h : Walking (probeOf v bytes) v.reach level looks (triangleIn v.signs ms) steps n
+module _ {v : Scene} {bytes : List ℕ} {level : Levels} {looks : ℕ} {ms : List ℤ} {steps n : ℕ} {r : Round} (going : Going v bytes level looks ms steps n) (g : RoundAsked (probe_of v bytes) (triangle_in v.signs ms) level n r) where
+  abbrev h : Walking (probe_of v bytes) v.reach level looks (triangle_in v.signs ms) steps n
   h = going.walking
 
   -- what the round gave, once its answer is known
-  round-gave : {t : Round} → r ≡ t → Gives n (round (probeOf v bytes) (taking level pairs) (triangleIn v.signs ms)) (roundTally t)
+  round-gave : {t : Round} → r ≡ t → Gives n (round (probe_of v bytes) (taking level pairs) (triangle_in v.signs ms)) (round_tally t)
   round-gave e = rw e at g.gives
 
-  pub walks-stopped : {p : Vector} {k : ℕ} {a : Refused} → r ≡ Stopped p k → a ≡ refusalOf 8 p steps k → Walks (probeOf v bytes) v.reach level looks (IsRefused a)
-  walks-stopped e f = record { gives = rw f (h.rest (walk-stopped (probeOf v bytes) (taking level pairs) (triangleIn v.signs ms) steps n (allowed v.reach level - steps) (round-gave e))); sound = tt }
+  pub walks-stopped : {p : Vector} {k : ℕ} {a : Refused} → r ≡ Stopped p k → a ≡ refusal_of 8 p steps k → Walks (probe_of v bytes) v.reach level looks (IsRefused a)
+  walks-stopped e f = record { gives = rw f (h.rest (walk-stopped (probe_of v bytes) (taking level pairs) (triangle_in v.signs ms) steps n (allowed v.reach level - steps) (round-gave e))); sound = tt }
 
-  pub walks-ended : {b : Best} {k : ℕ} {t : Triangle} → r ≡ IsAsked b k → b.pair ≡ 6 → t ≡ cornersIn ms → Walks (probeOf v bytes) v.reach level looks (Ended t steps k)
-  walks-ended e f z = rw z record { gives = h.rest (walk-ended (probeOf v bytes) (taking level pairs) (triangleIn v.signs ms) steps n (allowed v.reach level - steps) (rw f at (round-gave e))); sound = h.sound }
+  pub walks-ended : {b : Best} {k : ℕ} {t : Triangle} → r ≡ IsAsked b k → b.pair ≡ 6 → t ≡ corners_in ms → Walks (probe_of v bytes) v.reach level looks (Ended t steps k)
+  walks-ended e f z = rw z record { gives = h.rest (walk-ended (probe_of v bytes) (taking level pairs) (triangle_in v.signs ms) steps n (allowed v.reach level - steps) (rw f at (round-gave e))); sound = h.sound }
 
   -- a pair that is not 6 was chosen
   pub chosen-below : {b : Best} {k : ℕ} → r ≡ IsAsked b k → (b.pair ≡ 6 → ⊥) → b.pair < 6
-  chosen-below {b} e f = let o : Weighs (triangleIn v.signs ms) b = rw e at g.weighed in omega (arith, o.numbered)
+  chosen-below {b} e f = let o : Weighs (triangle_in v.signs ms) b = rw e at g.weighed in omega (arith, o.numbered)
 
-  chose : {b : Best} {k : ℕ} → r ≡ IsAsked b k → (b.pair ≡ 6 → ⊥) → Gives n (round (probeOf v bytes) (taking level pairs) (triangleIn v.signs ms)) (yes (Chosen (pair_at b.pair)) k)
+  chose : {b : Best} {k : ℕ} → r ≡ IsAsked b k → (b.pair ≡ 6 → ⊥) → Gives n (round (probe_of v bytes) (taking level pairs) (triangle_in v.signs ms)) (yes (Chosen (pair_at b.pair)) k)
   chose {b} e f = rw (chosen_at b.pair (chosen-below e f)) at (round-gave e)
 
-  pub walks-spent : {b : Best} {k limit : ℕ} {a : Refused} → limit ≡ allowed v.reach level → r ≡ IsAsked b k → (b.pair ≡ 6 → ⊥) → steps ≡ limit → a ≡ refusalOf 9 v.apex steps k → Walks (probeOf v bytes) v.reach level looks (IsRefused a)
+  pub walks-spent : {b : Best} {k limit : ℕ} {a : Refused} → limit ≡ allowed v.reach level → r ≡ IsAsked b k → (b.pair ≡ 6 → ⊥) → steps ≡ limit → a ≡ refusal_of 9 v.apex steps k → Walks (probe_of v bytes) v.reach level looks (IsRefused a)
   walks-spent l e f z i =
       let none : allowed v.reach level - steps ≡ 0 = omega arith in
-      record { gives = rw i (h.rest (rw none (walk-spent (probeOf v bytes) (taking level pairs) (triangleIn v.signs ms) steps n (chose e f)))); sound = tt }
+      record { gives = rw i (h.rest (rw none (walk-spent (probe_of v bytes) (taking level pairs) (triangle_in v.signs ms) steps n (chose e f)))); sound = tt }
 
   pub walks-on : {b : Best} {k limit : ℕ} {next : List ℤ} → Ready v bytes → limit ≡ allowed v.reach level → r ≡ IsAsked b k → (b.pair ≡ 6 → ⊥) → (steps ≡ limit → ⊥) → next ≡ stepped ms (pair_at b.pair) → Going v bytes level looks next (steps + 1) k
   walks-on {b} {k} {limit} ready l e f z i =
       let left : allowed v.reach level - steps ≡ suc (allowed v.reach level - suc steps) = omega (arith, h.low) in
       let x = pair_at b.pair in
-      let m = triangleIn v.signs ms in
+      let m = triangle_in v.signs ms in
       let j = stepped-triangle ms going.whole x v.signs in
       rw i record {
         walking = record {
           sound = rw j (step-sound (taking level pairs) ready h.sound (chose e f));
           low = omega (arith, h.low);
           high = h.high;
-          few = omega (arith, h.few, g.few, ap roundLooks e);
-          rest = λ t. h.rest (rw left (walk-on (probeOf v bytes) (taking level pairs) m steps n (allowed v.reach level - suc steps) (chose e f) (rw (j, add-one) at t)));
+          few = omega (arith, h.few, g.few, ap round_looks e);
+          rest = λ t. h.rest (rw left (walk-on (probe_of v bytes) (taking level pairs) m steps n (allowed v.reach level - suc steps) (chose e f) (rw (j, add-one) at t)));
         };
         ranked = stepped-ranked ms going.whole x going.ranked;
         whole = stepped-whole ms going.whole x;

@@ -5,18 +5,18 @@ use Rattle.rules.specs.declared.Levels.{Levels}
 use Rattle.rules.specs.declared.Triangle.{Triangle}
 use Rattle.rules.specs.Asked.{Asked}
 use Rattle.rules.specs.Walk.{Stop, units, pairs, remaining, Probe, laid, walk, rounds}
-use Rattle.laws.specs.Tally.{Tally, yes, Gives, mostLooks}
-use Rattle.refusals.specs.Refusals.{refusalTally}
+use Rattle.laws.specs.Tally.{Tally, yes, Gives, most_looks}
+use Rattle.refusals.specs.Refusals.{refusal_tally}
 use Rattle.choice.specs.Sound.{Sound}
-use Rattle.round.specs.Corners.{triangleIn, Ranked}
+use Rattle.round.specs.Corners.{triangle_in, Ranked}
 use Rattle.round.specs.Round.{taking}
 use Rattle.walk.specs.declared.Walked.{Walked}
 use Rattle.walk.specs.declared.Walked.TheVariants.{Ended, Refused as IsRefused}
 
 -- the walk ends with the triangle laid in: in the frame with the signs s it is the definition's
-abbrev pub walkTally : Vector → Walked → Tally Stop (Triangle × ℕ)
-walkTally s (Ended t n k) = yes (laid s t, n) k
-walkTally s (IsRefused r) = refusalTally r
+abbrev pub walk_tally : Vector → Walked → Tally Stop (Triangle × ℕ)
+walk_tally s (Ended t n k) = yes (laid s t, n) k
+walk_tally s (IsRefused r) = refusal_tally r
 
 abbrev pub SoundEnd : Vector → Walked → Type 0
 SoundEnd s (Ended t n k) = Sound (laid s t)
@@ -24,13 +24,13 @@ SoundEnd s (IsRefused r) = Unit {0}
 
 -- ms holds the unit vectors laid in, with their ranks
 pub record Units (s ranks : Vector) (ms : List ℤ) : Type 0 where
-  pub are : triangleIn s ms ≡ units
+  pub are : triangle_in s ms ≡ units
   pub ranked : Ranked ranks ms
   pub whole : length ms ≡ 12
 
 -- six pairs in each of at most 257 rounds
-abbrev pub walkQuestions : ℕ
-walkQuestions = 1542
+abbrev pub walk_questions : ℕ
+walk_questions = 1542
 
 -- the steps allowed: the reach less the number of remaining axes, none if that is below zero
 abbrev pub allowed : ℕ → Levels → ℕ
@@ -38,11 +38,11 @@ allowed reach level = reach - length (remaining level)
 
 -- the walk, with the reach R, of the pairs that take part
 module _ (c : Probe) (R : ℕ) (level : Levels) where
-  abbrev pub walkFrom : ℕ → ℕ → Triangle → Asked Stop (Triangle × ℕ)
-  walkFrom left steps m = walk c (taking level pairs) left steps m
+  abbrev pub walk_from : ℕ → ℕ → Triangle → Asked Stop (Triangle × ℕ)
+  walk_from left steps m = walk c (taking level pairs) left steps m
 
   pub record Walks (looks : ℕ) (r : Walked) : Type 0 where
-    pub gives : Gives looks (rounds c R level) (walkTally c.signs r)
+    pub gives : Gives looks (rounds c R level) (walk_tally c.signs r)
     pub sound : SoundEnd c.signs r
 
   -- before a round, after n looks: the walk from here gives what the whole walk gives
@@ -50,5 +50,5 @@ module _ (c : Probe) (R : ℕ) (level : Levels) where
     pub sound : Sound m
     pub low : steps ≤ allowed R level
     pub high : R ≤ 256
-    pub few : n ≤ looks + mostLooks (6 * steps)
-    pub rest : {r : Tally Stop (Triangle × ℕ)} → Gives n (walkFrom (allowed R level - steps) steps m) r → Gives looks (rounds c R level) r
+    pub few : n ≤ looks + most_looks (6 * steps)
+    pub rest : {r : Tally Stop (Triangle × ℕ)} → Gives n (walk_from (allowed R level - steps) steps m) r → Gives looks (rounds c R level) r

@@ -4,8 +4,8 @@ ghost use Rattle.rules.specs.Walk.{remaining};
 ghost use Rattle.laws.specs.Bounds.{Bounded};
 ghost use Rattle.laws.specs.Frames.{Signs};
 ghost use Rattle.laws.specs.Tally.{Countable};
-ghost use Rattle.falls.specs.Scene.{probeOf, Ready};
-ghost use Rattle.walk.specs.Walk.{Units, walkQuestions, allowed, Walks};
+ghost use Rattle.falls.specs.Scene.{probe_of, Ready};
+ghost use Rattle.walk.specs.Walk.{Units, walk_questions, allowed, Walks};
 
 use falls::Scene;
 use round::Round;
@@ -51,8 +51,8 @@ fn steps_allowed(reach: u32, level: Levels) -> u32
 
 // Begin with the unit vectors and zero steps. The triangle stays laid in, in one array with its ranks.
 pub fn walk_on(scene: Scene, bytes: &[u8], level: Levels, looks: u32) -> Walked
-    requires { Ready scene bytes.now × Countable walkQuestions looks }
-    ensures { Walks (probeOf scene bytes.now) scene.reach level looks result }
+    requires { Ready scene bytes.now × Countable walk_questions looks }
+    ensures { Walks (probe_of scene bytes.now) scene.reach level looks result }
 {
     let q = scene.apex;
     let s = scene.signs;

@@ -7,8 +7,8 @@ use borrow.Author.Rules.{rules}
 use Rattle.integers.specs.Machine.{machine, fits, value}
 use Rattle.rules.specs.Vectors.{◌⊖◌}
 use Rattle.rules.specs.Solids.{look}
-use Rattle.axis.specs.Axes.{axisAt, withPart}
-use Rattle.solid.specs.Grid.{ranksOf}
+use Rattle.axis.specs.Axes.{axis_at, with_part}
+use Rattle.solid.specs.Grid.{ranks_of}
 use Rattle.falls.specs.Falls.{Falling}
 use Rattle.along.specs.Facts.{step-within, rise-within}
 use Rattle.falls.specs.Fits.{here-within, ranked-within}
@@ -19,8 +19,8 @@ use Rattle.along.proofs.ask_along.Tie as tie
 
 abbrev invariant-loop : tie.invariant-loop
 invariant-loop bytes looks solid q here span axis side from at₀ rank₀ power₀ n₀ at rank power n =
-    let point = withPart q (axisAt axis) in
-    Falling (look solid bytes) (ranksOf solid) q (point (to_z w32 at₀) ⊖ q) span looks power n (point (to_z w32 at)) (to_z w32 rank)
+    let point = with_part q (axis_at axis) in
+    Falling (look solid bytes) (ranks_of solid) q (point (to_z w32 at₀) ⊖ q) span looks power n (point (to_z w32 at)) (to_z w32 rank)
 
 abbrev decreases-loop : tie.decreases-loop
 decreases-loop bytes looks solid q here span axis side from at₀ rank₀ power₀ n₀ at rank power n = 512 - power
@@ -61,7 +61,7 @@ part-difference-fits c =
     let l = c.before.before.before.before in
     let s = l.before.before.before.before.before.before.before.before.before in
     let from = from-within s.requires.0 s.requires.1 in
-    let at = part-sized s.args.scene.apex (axisAt s.args.line.axis) l.loop.invariant.sized in
+    let at = part-sized s.args.scene.apex (axis_at s.args.line.axis) l.loop.invariant.sized in
     fits (search machine depth 30 fits 5000) tt
 
 next-part-fits : tie.Need-overflow-add-at-2 invariant-loop decreases-loop
@@ -69,7 +69,7 @@ next-part-fits c =
     let l = c.before.before.before.before in
     let s = l.before.before.before.before.before.before.before.before.before in
     let from = from-within s.requires.0 s.requires.1 in
-    let at = part-sized s.args.scene.apex (axisAt s.args.line.axis) l.loop.invariant.sized in
+    let at = part-sized s.args.scene.apex (axis_at s.args.line.axis) l.loop.invariant.sized in
     fits (search machine depth 30 fits 5000) tt
 
 difference-fits : tie.Need-overflow-sub-rank invariant-loop decreases-loop
@@ -95,7 +95,7 @@ again c =
     let l = looked.before in
     let s = l.before.before.before.before.before.before.before.before.before in
     let from = from-within s.requires.0 s.requires.1 in
-    let at = part-sized s.args.scene.apex (axisAt s.args.line.axis) l.loop.invariant.sized in
+    let at = part-sized s.args.scene.apex (axis_at s.args.line.axis) l.loop.invariant.sized in
     let here = here-within s.requires.0 in
     let rank = ranked-within s.requires.0 l.loop.invariant.sized l.loop.invariant.ranked in
     along-on s.requires.0 s.requires.1 (to_z w32 l.loop.at) l.loop.invariant looked.look-along.ensures seen.enum-told3.given.1 c.if1.false (value (search machine depth 30 fits 5000) tt) (value (search machine depth 30 fits 5000) tt)

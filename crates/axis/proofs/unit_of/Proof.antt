@@ -8,11 +8,11 @@ use mir.Val.{to_z, bool_byte}
 use borrow.Author.Rules.{rules}
 use Rattle.rules.specs.Vectors.{vector}
 use Rattle.rules.specs.Walk.{unit}
-use Rattle.axis.specs.Axes.{axisAt}
+use Rattle.axis.specs.Axes.{axis_at}
 use Rattle.axis.proofs.unit_of.Statement.{statement}
 use Rattle.axis.proofs.unit_of.Tie as tie
 
-by_number : (i : ℕ) → i < 3 → vector (to_z w32 (bool_byte (eqb i 0))) (to_z w32 (bool_byte (eqb i 1))) (to_z w32 (bool_byte (eqb i 2))) ≡ unit (axisAt i)
+by_number : (i : ℕ) → i < 3 → vector (to_z w32 (bool_byte (eqb i 0))) (to_z w32 (bool_byte (eqb i 1))) (to_z w32 (bool_byte (eqb i 2))) ≡ unit (axis_at i)
 by_number zero h = refl
 by_number (suc zero) h = refl
 by_number (suc (suc zero)) h = refl

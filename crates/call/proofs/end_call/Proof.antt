@@ -13,12 +13,12 @@ use Rattle.end.specs.Answers.{is-answer-from}
 use Rattle.call.specs.declared.Call.{Call}
 use Rattle.call.specs.declared.Call.TheVariants.{Pick, Touch, Check, Walk}
 use Rattle.call.specs.declared.Outcome.TheVariants.{Ended}
-use Rattle.call.specs.Calls.{walkEnd, end_of}
+use Rattle.call.specs.Calls.{walk_end, end_of}
 use Rattle.call.specs.contracts.Call.{the_type}
 use Rattle.call.proofs.end_call.Statement.{statement}
 use Rattle.call.proofs.end_call.Tie as tie
 
-others-walk : (call : Call) (v : Scene) (bytes : List ℕ) (level : Levels) (n : ℕ) → OneOf (0 ∷ 1 ∷ 3 ∷ []) (tag_of the_type call) → walkEnd v bytes level n ≡ end_of call v bytes level n
+others-walk : (call : Call) (v : Scene) (bytes : List ℕ) (level : Levels) (n : ℕ) → OneOf (0 ∷ 1 ∷ 3 ∷ []) (tag_of the_type call) → walk_end v bytes level n ≡ end_of call v bytes level n
 others-walk (Pick p) v bytes level n k = refl
 others-walk (Touch p) v bytes level n k = refl
 others-walk (Check p) v bytes level n (inl k) = absurd (omega (arith, k))

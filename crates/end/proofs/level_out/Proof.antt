@@ -7,14 +7,14 @@ use mir.Val.{to_z, of_z}
 use borrow.Author.Rules.{rules}
 use Rattle.integers.specs.Sizes.{Within}
 use Rattle.integers.specs.Machine.{machine, value, back}
-use Rattle.rules.specs.Walk.{unlessLevel, levelled}
+use Rattle.rules.specs.Walk.{unless_level, levelled}
 use Rattle.laws.specs.Parts.{vector-eq}
 use Rattle.end.proofs.level_out.Statement.{statement}
 use Rattle.end.proofs.level_out.Tie as tie
 
 -- what a call says of the part z
-part : (b : Bool) {z r : ℤ} → Within 1000000000 z → r ≡ unlessLevel b (to_z w32 (of_z w32 z)) → r ≡ unlessLevel b z
-part b h e = e ∙ ap (unlessLevel b) (value (search machine depth 30 fits 5000) tt)
+part : (b : Bool) {z r : ℤ} → Within 1000000000 z → r ≡ unless_level b (to_z w32 (of_z w32 z)) → r ≡ unless_level b z
+part b h e = e ∙ ap (unless_level b) (value (search machine depth 30 fits 5000) tt)
 
 returns : tie.Need-returns
 unfolding levelled

@@ -8,7 +8,7 @@ use borrow.Author.Rules.{rules}
 use Rattle.integers.specs.Machine.{machine, fits, value}
 use Rattle.rules.specs.Vectors.{◌⊖◌}
 use Rattle.rules.specs.Solids.{look}
-use Rattle.solid.specs.Grid.{ranksOf}
+use Rattle.solid.specs.Grid.{ranks_of}
 use Rattle.solid.specs.Facts.{empty-bounded}
 use Rattle.falls.specs.Falls.{Falling}
 use Rattle.falls.specs.Sizes.{apex-bounded}
@@ -18,7 +18,7 @@ use Rattle.falls.proofs.ask_falls.Statement.{statement}
 use Rattle.falls.proofs.ask_falls.Tie as tie
 
 abbrev invariant-loop : tie.invariant-loop
-invariant-loop bytes rise looks solid grid q here span at₀ rank₀ power₀ n₀ at rank power n = Falling (look solid bytes) (ranksOf solid) q (at₀ ⊖ q) span looks power n at (to_z w32 rank)
+invariant-loop bytes rise looks solid grid q here span at₀ rank₀ power₀ n₀ at rank power n = Falling (look solid bytes) (ranks_of solid) q (at₀ ⊖ q) span looks power n at (to_z w32 rank)
 
 abbrev decreases-loop : tie.decreases-loop
 decreases-loop bytes rise looks solid grid q here span at₀ rank₀ power₀ n₀ at rank power n = 512 - power

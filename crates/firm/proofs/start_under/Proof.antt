@@ -3,13 +3,13 @@ use mathlib.Core.Path.{ap, ◌∙◌}
 use mir.Syntax.{w32}
 use borrow.Author.Rules.{rules}
 use Rattle.integers.specs.Machine.{machine, typed, value, back}
-use Rattle.rules.specs.Firm.{held, startUnder}
+use Rattle.rules.specs.Firm.{held, start_under}
 use Rattle.laws.specs.Parts.{vector-eq}
 use Rattle.firm.proofs.start_under.Statement.{statement}
 use Rattle.firm.proofs.start_under.Tie as tie
 
 by_parts : tie.Need-returns
-unfolding startUnder
+unfolding start_under
 by_parts c =
     let y = c.before.before.before in
     let x = y.before.before.before in

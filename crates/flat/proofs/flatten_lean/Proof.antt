@@ -1,15 +1,15 @@
--- `flatten_lean` writes out the two cases of `flatLean`.
+-- `flatten_lean` writes out the two cases of `flat_lean`.
 use mathlib.Core.Path.{sym, ap}
 use borrow.Author.Rules.{rules}
-use Rattle.flat.specs.Flat.{flatLean}
+use Rattle.flat.specs.Flat.{flat_lean}
 use Rattle.flat.proofs.flatten_lean.Statement.{statement}
 use Rattle.flat.proofs.flatten_lean.Tie as tie
 
 known : tie.Need-returns
-known c = ap flatLean (sym c.before.answer.given.1)
+known c = ap flat_lean (sym c.before.answer.given.1)
 
 unknown : tie.Need-returns-2
-unknown c = ap flatLean (sym c.before.answer2.given.1)
+unknown c = ap flat_lean (sym c.before.answer2.given.1)
 
 pub flatten-lean-spec : {M : Type 1} → statement M
 flatten-lean-spec = tie.close (tie.spec (λ c. search rules) (λ c. search rules) known unknown)

@@ -1,9 +1,9 @@
--- `flatten_reading` writes out the two cases of `flatReading`, each size by `size_of`.
+-- `flatten_reading` writes out the two cases of `flat_reading`, each size by `size_of`.
 use mathlib.Core.Path.{sym, ap}
 use mir.Syntax.{w32}
 use Rattle.integers.specs.Machine.{back}
 use borrow.Author.Rules.{rules}
-use Rattle.flat.specs.Flat.{flatReading}
+use Rattle.flat.specs.Flat.{flat_reading}
 use Rattle.flat.proofs.flatten_reading.Statement.{statement}
 use Rattle.flat.proofs.flatten_reading.Tie as tie
 
@@ -18,10 +18,10 @@ returns c =
       back w32 _ told.1.0.1,
       back w32 _ told.1.1.0.1,
     )
-    (ap flatReading (sym c.before.before.before.before.before.before.before.answer.given.1))
+    (ap flat_reading (sym c.before.before.before.before.before.before.before.answer.given.1))
 
 returns-2 : tie.Need-returns-2
-returns-2 c = ap flatReading (sym c.before.answer2.given.1)
+returns-2 c = ap flat_reading (sym c.before.answer2.given.1)
 
 pub flatten-reading-spec : {M : Type 1} → statement M
 flatten-reading-spec =

@@ -1,4 +1,4 @@
--- `flatten_ready` writes out `flatReady`.
+-- `flatten_ready` writes out `flat_ready`.
 use borrow.Author.Rules.{rules}
 use Rattle.flat.proofs.flatten_ready.Statement.{statement}
 use Rattle.flat.proofs.flatten_ready.Tie as tie

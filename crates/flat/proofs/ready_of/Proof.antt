@@ -1,4 +1,4 @@
--- `ready_of` writes out `readyOf`.
+-- `ready_of` writes out `ready_of`.
 use borrow.Author.Rules.{rules}
 use Rattle.flat.proofs.ready_of.Statement.{statement}
 use Rattle.flat.proofs.ready_of.Tie as tie

@@ -2,7 +2,7 @@
 use mathlib.Core.Path.{ap, ◌∙◌}
 use borrow.Author.Rules.{rules}
 use mir.Facts.{to_z-of_z}
-use Rattle.flat.specs.Flat.{flatCheck}
+use Rattle.flat.specs.Flat.{flat_check}
 use Rattle.panel.proofs.ulgenzhir_check_stack.Statement.{statement}
 use Rattle.panel.proofs.ulgenzhir_check_stack.Tie as tie
 
@@ -12,7 +12,7 @@ returns c =
     let own = at.before.before.before.ranges in
     record {
       is = c.flatten-check.ensures
-          ∙ ap flatCheck (rw (at.point.ensures, at.before.stack_of.ensures, to_z-of_z own.width, to_z-of_z own.height, to_z-of_z own.depth, to_z-of_z own.px, to_z-of_z own.py, to_z-of_z own.pz, to_z-of_z own.frame, to_z-of_z own.reach) at c.before.check-stack.ensures.is);
+          ∙ ap flat_check (rw (at.point.ensures, at.before.stack_of.ensures, to_z-of_z own.width, to_z-of_z own.height, to_z-of_z own.depth, to_z-of_z own.px, to_z-of_z own.py, to_z-of_z own.pz, to_z-of_z own.frame, to_z-of_z own.reach) at c.before.check-stack.ensures.is);
     }
 
 pub ulgenzhir-check-stack-spec : {M : Type 1} → statement M

@@ -2,7 +2,7 @@
 use mathlib.Core.Path.{ap, ◌∙◌}
 use borrow.Author.Rules.{rules}
 use mir.Facts.{to_z-of_z}
-use Rattle.flat.specs.Flat.{flatCheck}
+use Rattle.flat.specs.Flat.{flat_check}
 use Rattle.panel.proofs.ulgenzhir_check_wedge.Statement.{statement}
 use Rattle.panel.proofs.ulgenzhir_check_wedge.Tie as tie
 
@@ -12,7 +12,7 @@ returns c =
     let own = at.before.before.ranges in
     record {
       is = c.flatten-check.ensures
-          ∙ ap flatCheck (rw (at.point.ensures, at.before.wedge-of.ensures, to_z-of_z own.a, to_z-of_z own.b, to_z-of_z own.c, to_z-of_z own.h, to_z-of_z own.px, to_z-of_z own.py, to_z-of_z own.pz, to_z-of_z own.frame, to_z-of_z own.reach) at c.before.check-wedge.ensures.is);
+          ∙ ap flat_check (rw (at.point.ensures, at.before.wedge-of.ensures, to_z-of_z own.a, to_z-of_z own.b, to_z-of_z own.c, to_z-of_z own.h, to_z-of_z own.px, to_z-of_z own.py, to_z-of_z own.pz, to_z-of_z own.frame, to_z-of_z own.reach) at c.before.check-wedge.ensures.is);
     }
 
 pub ulgenzhir-check-wedge-spec : {M : Type 1} → statement M

@@ -2,7 +2,7 @@
 use mathlib.Core.Path.{ap, ◌∙◌}
 use borrow.Author.Rules.{rules}
 use mir.Facts.{to_z-of_z}
-use Rattle.flat.specs.Flat.{flatFirm}
+use Rattle.flat.specs.Flat.{flat_firm}
 use Rattle.panel.proofs.ulgenzhir_firm_stack.Statement.{statement}
 use Rattle.panel.proofs.ulgenzhir_firm_stack.Tie as tie
 
@@ -12,7 +12,7 @@ returns c =
     let own = at.before.before.before.ranges in
     record {
       is = c.flatten-firm.ensures
-          ∙ ap flatFirm (rw (at.handed-pick.ensures, at.before.stack_of.ensures, to_z-of_z own.width, to_z-of_z own.height, to_z-of_z own.depth, to_z-of_z own.frame, to_z-of_z own.reach) at c.before.firm-stack.ensures.is);
+          ∙ ap flat_firm (rw (at.handed-pick.ensures, at.before.stack_of.ensures, to_z-of_z own.width, to_z-of_z own.height, to_z-of_z own.depth, to_z-of_z own.frame, to_z-of_z own.reach) at c.before.firm-stack.ensures.is);
     }
 
 pub ulgenzhir-firm-stack-spec : {M : Type 1} → statement M

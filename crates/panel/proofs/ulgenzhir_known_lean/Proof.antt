@@ -2,8 +2,8 @@
 use mathlib.Core.Path.{ap, ◌∙◌}
 use borrow.Author.Rules.{rules}
 use mir.Facts.{to_z-of_z}
-use Rattle.rules.specs.Lean.{leanOf}
-use Rattle.flat.specs.Flat.{handedPick, flatLean}
+use Rattle.rules.specs.Lean.{lean_of}
+use Rattle.flat.specs.Flat.{handed_pick, flat_lean}
 use Rattle.panel.proofs.ulgenzhir_known_lean.Statement.{statement}
 use Rattle.panel.proofs.ulgenzhir_known_lean.Tie as tie
 
@@ -12,7 +12,7 @@ returns c =
     let at = c.before.before in
     let start = at.before in
     let promise = rw at.handed-pick.ensures at c.before.known-lean.ensures.is in
-    record { is = c.flatten-lean.ensures ∙ ap flatLean (promise ∙ ap (leanOf (handedPick start.args.pick)) (to_z-of_z start.ranges.reach)) }
+    record { is = c.flatten-lean.ensures ∙ ap flat_lean (promise ∙ ap (lean_of (handed_pick start.args.pick)) (to_z-of_z start.ranges.reach)) }
 
 pub ulgenzhir-known-lean-spec : {M : Type 1} → statement M
 ulgenzhir-known-lean-spec = tie.close (tie.spec (λ c κs. search rules) (λ c κs. search rules) (λ c κs. search rules) returns)

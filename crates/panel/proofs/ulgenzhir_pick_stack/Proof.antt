@@ -2,7 +2,7 @@
 use mathlib.Core.Path.{ap, ◌∙◌}
 use borrow.Author.Rules.{rules}
 use mir.Facts.{to_z-of_z}
-use Rattle.flat.specs.Flat.{flatPick}
+use Rattle.flat.specs.Flat.{flat_pick}
 use Rattle.panel.proofs.ulgenzhir_pick_stack.Statement.{statement}
 use Rattle.panel.proofs.ulgenzhir_pick_stack.Tie as tie
 
@@ -12,7 +12,7 @@ returns c =
     let own = at.before.before.before.ranges in
     record {
       is = c.flatten-pick.ensures
-          ∙ ap flatPick (rw (at.point.ensures, at.before.stack_of.ensures, to_z-of_z own.width, to_z-of_z own.height, to_z-of_z own.depth, to_z-of_z own.px, to_z-of_z own.py, to_z-of_z own.pz, to_z-of_z own.frame, to_z-of_z own.reach) at c.before.pick-stack.ensures.is);
+          ∙ ap flat_pick (rw (at.point.ensures, at.before.stack_of.ensures, to_z-of_z own.width, to_z-of_z own.height, to_z-of_z own.depth, to_z-of_z own.px, to_z-of_z own.py, to_z-of_z own.pz, to_z-of_z own.frame, to_z-of_z own.reach) at c.before.pick-stack.ensures.is);
     }
 
 pub ulgenzhir-pick-stack-spec : {M : Type 1} → statement M

@@ -2,7 +2,7 @@
 use mathlib.Core.Path.{ap, ◌∙◌}
 use borrow.Author.Rules.{rules}
 use mir.Facts.{to_z-of_z}
-use Rattle.flat.specs.Flat.{flatPick}
+use Rattle.flat.specs.Flat.{flat_pick}
 use Rattle.panel.proofs.ulgenzhir_walk_wedge.Statement.{statement}
 use Rattle.panel.proofs.ulgenzhir_walk_wedge.Tie as tie
 
@@ -12,7 +12,7 @@ returns c =
     let own = at.before.before.ranges in
     record {
       is = c.flatten-pick.ensures
-          ∙ ap flatPick (rw (at.Ready-of.ensures, at.before.wedge-of.ensures, to_z-of_z own.a, to_z-of_z own.b, to_z-of_z own.c, to_z-of_z own.h, to_z-of_z own.frame, to_z-of_z own.reach) at c.before.walk-wedge.ensures.is);
+          ∙ ap flat_pick (rw (at.Ready-of.ensures, at.before.wedge-of.ensures, to_z-of_z own.a, to_z-of_z own.b, to_z-of_z own.c, to_z-of_z own.h, to_z-of_z own.frame, to_z-of_z own.reach) at c.before.walk-wedge.ensures.is);
     }
 
 pub ulgenzhir-walk-wedge-spec : {M : Type 1} → statement M

@@ -2,7 +2,7 @@
 use mathlib.Core.Path.{ap, ◌∙◌}
 use borrow.Author.Rules.{rules}
 use mir.Facts.{to_z-of_z}
-use Rattle.flat.specs.Flat.{flatWriting}
+use Rattle.flat.specs.Flat.{flat_writing}
 use Rattle.panel.proofs.ulgenzhir_write_p4.Statement.{statement}
 use Rattle.panel.proofs.ulgenzhir_write_p4.Tie as tie
 
@@ -11,7 +11,7 @@ returns c =
     let made = c.before.before.before.before.before in
     let own = made.before.before.before.ranges in
     let promise = rw (made.stack_of.ensures, to_z-of_z own.width, to_z-of_z own.height, to_z-of_z own.depth) at c.before.before.before.write.ensures in
-    record { answers = c.flatten-writing.ensures ∙ ap flatWriting promise.answers; leaves = promise.leaves }
+    record { answers = c.flatten-writing.ensures ∙ ap flat_writing promise.answers; leaves = promise.leaves }
 
 pub ulgenzhir-write-p4-spec : {M : Type 1} → statement M
 ulgenzhir-write-p4-spec =

@@ -1,8 +1,8 @@
 -- `ready::is_ready` meets its contract: nine powers at most, so 2 + 6K fits.
 use native.Mathlib.Omega.{arith}
 use borrow.Author.Rules.{rules}
-use Rattle.rules.specs.Walk.{allLevel}
-use Rattle.rules.specs.TwoCalls.{isReady}
+use Rattle.rules.specs.Walk.{all_level}
+use Rattle.rules.specs.TwoCalls.{is_ready}
 use Rattle.laws.specs.Powers.{few-powers}
 use Rattle.ready.proofs.is_ready.Statement.{statement}
 use Rattle.ready.proofs.is_ready.Tie as tie
@@ -14,7 +14,7 @@ most-fits : tie.Need-overflow-add-most
 most-fits c = omega (arith, few-powers c.before.args.reach c.before.requires, c.count-powers.ensures)
 
 returns : tie.Need-returns
-unfolding isReady allLevel
+unfolding is_ready all_level
 returns c = rw c.before.before.before.before.count-powers.ensures
 
 pub is-ready-spec : {M : Type 1} → statement M

@@ -3,14 +3,14 @@ use mathlib.Core.Logic.{⊎_elim}
 use Prim.Native.Nat.{◌-◌}
 use native.Mathlib.Omega.{arith}
 use borrow.Author.Rules.{rules}
-use Rattle.falls.specs.Scene.{probeOf}
-use Rattle.round.specs.Corners.{triangleIn}
+use Rattle.falls.specs.Scene.{probe_of}
+use Rattle.round.specs.Corners.{triangle_in}
 use Rattle.round.proofs.Rounds.{Asking, asking, asking-few}
 use Rattle.round.proofs.ask_round.Statement.{statement}
 use Rattle.round.proofs.ask_round.Tie as tie
 
 abbrev invariant-loop : tie.invariant-loop
-invariant-loop scene bytes m looks skip best₀ n₀ i₀ best n i = Asking (probeOf scene bytes) (triangleIn scene.signs m) skip looks i best n
+invariant-loop scene bytes m looks skip best₀ n₀ i₀ best n i = Asking (probe_of scene bytes) (triangle_in scene.signs m) skip looks i best n
 
 abbrev decreases-loop : tie.decreases-loop
 decreases-loop scene bytes m looks skip best₀ n₀ i₀ best n i = 6 - i

@@ -1,13 +1,13 @@
 -- The three sizes' tests are those of the definition.
 use borrow.Author.Rules.{rules}
 use Rattle.integers.specs.Machine.{value}
-use Rattle.stack.specs.Sides.{sizesPermitted}
+use Rattle.stack.specs.Sides.{sizes_permitted}
 use Rattle.range.specs.Judged.{judged}
 use Rattle.stack.proofs.has_sizes.Statement.{statement}
 use Rattle.stack.proofs.has_sizes.Tie as tie
 
 returns : tie.Need-returns
-unfolding sizesPermitted
+unfolding sizes_permitted
 returns c = value (search judged depth 30 fits 5000) tt
 
 pub has-sizes-spec : {M : Type 1} → statement M

@@ -2,14 +2,14 @@
 use Prim.Native.Nat.{◌-◌}
 use native.Mathlib.Omega.{arith}
 use borrow.Author.Rules.{rules}
-use Rattle.falls.specs.Scene.{probeOf}
+use Rattle.falls.specs.Scene.{probe_of}
 use Rattle.falls.specs.Sizes.{apex-fits, scene-ranks}
 use Rattle.start.proofs.Turns.{Asking, one-axis, asking}
 use Rattle.start.proofs.ask_axes.Statement.{statement}
 use Rattle.start.proofs.ask_axes.Tie as tie
 
 abbrev invariant-loop : tie.invariant-loop
-invariant-loop scene bytes looks level₀ n₀ axis₀ level n axis = Asking (probeOf scene bytes) looks axis level n
+invariant-loop scene bytes looks level₀ n₀ axis₀ level n axis = Asking (probe_of scene bytes) looks axis level n
 
 abbrev decreases-loop : tie.decreases-loop
 decreases-loop scene bytes looks level₀ n₀ axis₀ level n axis = 3 - axis

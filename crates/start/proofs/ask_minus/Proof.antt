@@ -1,7 +1,7 @@
 -- `start::ask_minus` meets its contract: the line's opposite has minus the unit vector, laid in.
 use mathlib.Core.Path.{ap, ◌∙◌}
 use native.Mathlib.Omega.{arith}
-use Rattle.along.specs.Lines.{wayAlong}
+use Rattle.along.specs.Lines.{way_along}
 use Rattle.along.specs.Facts.{line-along, turned-line, line-fits, way_back}
 use Rattle.start.proofs.Axes.{minus-asked}
 use Rattle.start.proofs.ask_minus.Statement.{statement}
@@ -18,7 +18,7 @@ opposite_asks c κs =
 asked : tie.Need-returns
 asked c =
     let s = c.before.before.before in
-    minus-asked (ap wayAlong c.before.turn.ensures ∙ way_back s.requires.1) c.ask-along.ensures
+    minus-asked (ap way_along c.before.turn.ensures ∙ way_back s.requires.1) c.ask-along.ensures
 
 pub ask-minus-spec : {M : Type 1} → statement M
 ask-minus-spec = tie.close (tie.spec line-turns opposite_asks asked)

@@ -2,7 +2,7 @@
 use native.Mathlib.Omega.{arith}
 use borrow.Author.Rules.{rules}
 use Rattle.laws.specs.Bounds.{bounded-is}
-use Rattle.axis.specs.Axes.{axisAt}
+use Rattle.axis.specs.Axes.{axis_at}
 use Rattle.axis.specs.Along.{unit-bounded}
 use Rattle.falls.specs.Sizes.{apex-fits}
 use Rattle.along.specs.Facts.{line-along, way-laid}
@@ -19,7 +19,7 @@ axis-low c κs = c.before.before.before.before.before.requires.1.low
 apex-signs-and-unit-fit : tie.Need-refuse-axis-requires
 apex-signs-and-unit-fit c κs =
     let s = c.before.before.before.before.before.before in
-    (apex-fits s.requires.0, s.requires.0.signed, bounded-is c.unit-of.ensures (unit-bounded (axisAt s.args.line.axis)))
+    (apex-fits s.requires.0, s.requires.0.signed, bounded-is c.unit-of.ensures (unit-bounded (axis_at s.args.line.axis)))
 
 fell : tie.Need-returns
 fell c =

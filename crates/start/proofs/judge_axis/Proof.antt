@@ -2,7 +2,7 @@
 use mathlib.Core.Path.{ap}
 use native.Mathlib.Omega.{arith}
 use borrow.Author.Rules.{rules}
-use Rattle.falls.specs.Falls.{fallsLooks}
+use Rattle.falls.specs.Falls.{falls_looks}
 use Rattle.start.proofs.Axes.{judging-axis}
 use Rattle.start.proofs.judge_axis.Statement.{statement}
 use Rattle.start.proofs.judge_axis.Tie as tie
@@ -10,7 +10,7 @@ use Rattle.start.proofs.judge_axis.Tie as tie
 ask-opposite-requires : tie.Need-ask-opposite-requires
 ask-opposite-requires c κs =
     let s = c.before.before.before.before in
-    (s.requires.0, s.requires.1, omega (arith, s.requires.2, ap fallsLooks c.before.asked2.given.1))
+    (s.requires.0, s.requires.1, omega (arith, s.requires.2, ap falls_looks c.before.asked2.given.1))
 
 fell : tie.Need-returns
 fell c = search judging-axis

@@ -7,12 +7,12 @@ use lib.Dec.{eqb}
 use borrow.Author.Rules.{rules}
 use Rattle.rules.specs.declared.Levels.{Levels}
 use Rattle.rules.specs.Walk.{levels}
-use Rattle.axis.specs.Axes.{axisAt}
-use Rattle.start.specs.Start.{withLevel, told}
+use Rattle.axis.specs.Axes.{axis_at}
+use Rattle.start.specs.Start.{with_level, told}
 use Rattle.start.proofs.with_level.Statement.{statement}
 use Rattle.start.proofs.with_level.Tie as tie
 
-by_number : (v : Levels) (i : ℕ) (b : Bool) {x y z : Bool} → i < 3 → x ≡ told (eqb i 0) b v.x → y ≡ told (eqb i 1) b v.y → z ≡ told (eqb i 2) b v.z → levels x y z ≡ withLevel v (axisAt i) b
+by_number : (v : Levels) (i : ℕ) (b : Bool) {x y z : Bool} → i < 3 → x ≡ told (eqb i 0) b v.x → y ≡ told (eqb i 1) b v.y → z ≡ told (eqb i 2) b v.z → levels x y z ≡ with_level v (axis_at i) b
 by_number v zero b h d e f = rw (d, e, f)
 by_number v (suc zero) b h d e f = rw (d, e, f)
 by_number v (suc (suc zero)) b h d e f = rw (d, e, f)
