@@ -69,11 +69,11 @@ abbrev pub shift : Poly → Poly
 shift nil = nil
 shift (term k x p) = term (256 * k) x (shift p)
 
-abbrev pub at_place : {x : ℤ} {ρ : List ℤ} → Place ρ x → Poly
+abbrev pub at_place : {ρ : List ℤ} {x : ℤ} → Place ρ x → Poly
 at_place here = term 1 (pos 1) nil
 at_place (there p) = shift (at_place p)
 
-abbrev pub normal : {x : ℤ} {ρ : List ℤ} → Term ρ x → Poly
+abbrev pub normal : {ρ : List ℤ} {x : ℤ} → Term ρ x → Poly
 normal (atom p) = at_place p
 normal (literal {n}) = put 0 (pos n) nil
 normal (negative {n}) = put 0 (negsuc n) nil
@@ -81,7 +81,7 @@ normal (sum a b) = merge (normal a) (normal b)
 normal (product a b) = times (normal a) (normal b)
 normal (opposite a) = minus (normal a)
 
-abbrev pub degree : {x : ℤ} {ρ : List ℤ} → Term ρ x → ℕ
+abbrev pub degree : {ρ : List ℤ} {x : ℤ} → Term ρ x → ℕ
 degree (atom p) = 1
 degree literal = 0
 degree negative = 0
@@ -93,7 +93,7 @@ abbrev pub none? : Poly → Bool
 none? nil = true
 none? (term k x p) = false
 
-abbrev pub vanishes? : {x : ℤ} {ρ : List ℤ} → Term ρ x → Bool
+abbrev pub vanishes? : {ρ : List ℤ} {x : ℤ} → Term ρ x → Bool
 vanishes? a = ltb (degree a) 256 && none? (normal a)
 
 -- ---- what a polynomial means
@@ -256,7 +256,7 @@ module _ (ρ : List ℤ) where
         let m = merge-means d (scale k x q) (times p q) s.low t.low in
         record { value = simp (m.value, s.value, t.value, *ℤ-distr); low = m.low }
 
-at-place-means : {x : ℤ} {ρ : List ℤ} (p : Place ρ x) (d : ℕ) → 1 ≤ d → Means ρ d (at_place p) x
+at-place-means : {ρ : List ℤ} {x : ℤ} (p : Place ρ x) (d : ℕ) → 1 ≤ d → Means ρ d (at_place p) x
 unfolding total exponents
 at-place-means (here {x} {ρ}) d h = record { value = simp (monomial-atom, *ℤ-idl, +ℤ_idr); low = (omega (arith, exponents-one ρ), tt) }
 at-place-means (there {y} {ρ} p) d h =
@@ -269,7 +269,7 @@ literal-means ρ z d =
     let m = put-means ρ d 0 z nil (pos 0) (omega (arith, exponents-one ρ)) (record { value = refl; low = tt }) in
     record { value = m.value ∙ simp (monomial-one, *ℤ-idr, +ℤ_idr); low = m.low }
 
-normal-means : {x : ℤ} {ρ : List ℤ} (e : Term ρ x) (d : ℕ) → degree e ≤ d → d < 256 → Means ρ d (normal e) x
+normal-means : {ρ : List ℤ} {x : ℤ} (e : Term ρ x) (d : ℕ) → degree e ≤ d → d < 256 → Means ρ d (normal e) x
 normal-means (atom p) d h s = at-place-means p d h
 normal-means {ρ} (literal {n}) d h s = literal-means ρ (pos n) d
 normal-means {ρ} (negative {n}) d h s = literal-means ρ (negsuc n) d
@@ -290,7 +290,7 @@ unfolding total
 none-total ρ nil t = refl
 none-total ρ (term k x p) t = absurd t
 
-pub vanishes : {x : ℤ} {ρ : List ℤ} (e : Term ρ x) → T (vanishes? e) → x ≡ pos 0
+pub vanishes : {ρ : List ℤ} {x : ℤ} (e : Term ρ x) → T (vanishes? e) → x ≡ pos 0
 vanishes {ρ} e t =
     let c = and_yes (ltb (degree e) 256) (none? (normal e)) t in
     sym (normal-means e (degree e) (NatL.le_refl (degree e)) (ltb→lt (degree e) 256 c.0)).value ∙ none-total ρ (normal e) c.1

@@ -127,8 +127,8 @@ kept c =
     let step = step-within s.requires.1 in
     along-ends s.requires.0 s.requires.1 (value (search machine depth 30 fits 5000) tt) (falls-kept l.loop.invariant looked.look-along.ensures c.before.enum-told3.given.1 c.if1.true)
 
-pub ask-along-spec : {M : Type 1} → statement M
-ask-along-spec =
+pub ask_along_spec : {M : Type 1} → statement M
+ask_along_spec =
     tie.close
     (tie.spec
     invariant-loop

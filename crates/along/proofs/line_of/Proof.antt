@@ -30,8 +30,8 @@ returns c =
           (value (search machine depth 30 fits 5000) tt ∙ ap₂ ◌*ℤ◌ c.before.part-of2.ensures c.part-of3.ensures);
     }
 
-pub line-of-spec : {M : Type 1} → statement M
-line-of-spec =
+pub line_of_spec : {M : Type 1} → statement M
+line_of_spec =
     tie.close
     (tie.spec
     (λ c κs. search rules) (λ c κs. search rules) (λ c κs. search rules) (λ c κs. search rules) rise-fits returns)

@@ -7,8 +7,8 @@ use Rattle.answer.proofs.put_accepted.Tie as tie
 one-write : tie.Need-returns
 one-write c = search wrote-accepted
 
-pub put-accepted-spec : {M : Type 1} → statement M
-put-accepted-spec =
+pub put_accepted_spec : {M : Type 1} → statement M
+put_accepted_spec =
     tie.close
     (tie.spec
     (λ c. search rules) (λ c κs. search rules) (λ c κs. search rules) (λ c κs. search rules) (λ c. search rules)

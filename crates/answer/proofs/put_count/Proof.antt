@@ -4,8 +4,8 @@ use Rattle.answer.proofs.Words.{count_room, wrote_count}
 use Rattle.answer.proofs.put_count.Statement.{statement}
 use Rattle.answer.proofs.put_count.Tie as tie
 
-pub put-count-spec : {M : Type 1} → statement M
-put-count-spec =
+pub put_count_spec : {M : Type 1} → statement M
+put_count_spec =
     tie.close
     (tie.spec
     (λ c. search rules) (λ c κs. search rules) (λ c κs. search count_room)

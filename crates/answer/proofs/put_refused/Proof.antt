@@ -4,8 +4,8 @@ use Rattle.answer.proofs.Words.{wrote-refused}
 use Rattle.answer.proofs.put_refused.Statement.{statement}
 use Rattle.answer.proofs.put_refused.Tie as tie
 
-pub put-refused-spec : {M : Type 1} → statement M
-put-refused-spec =
+pub put_refused_spec : {M : Type 1} → statement M
+put_refused_spec =
     tie.close
     (tie.spec
     (λ c. search rules) (λ c κs. search rules) (λ c κs. search rules) (λ c κs. search rules) (λ c κs. search rules)

@@ -22,5 +22,5 @@ along-z c =
     let s = c.before.before.before in
     value (search (machine, typed) depth 30 fits 5000) tt ∙ ap (λ (k : Axis). part k s.args.v) (third s.requires c.before.before.if1.false c.before.if2.false)
 
-pub part-of-spec : {M : Type 1} → statement M
-part-of-spec = tie.close (tie.spec along-x along-y along-z)
+pub part_of_spec : {M : Type 1} → statement M
+part_of_spec = tie.close (tie.spec along-x along-y along-z)

@@ -18,5 +18,5 @@ by_number (suc zero) h = refl
 by_number (suc (suc zero)) h = refl
 by_number (suc (suc (suc i))) h = absurd (omega arith)
 
-pub unit-of-spec : {M : Type 1} → statement M
-unit-of-spec = tie.close (tie.spec (λ c. search rules) (λ c. search rules) (λ c. search rules) (λ c. search by_number))
+pub unit_of_spec : {M : Type 1} → statement M
+unit_of_spec = tie.close (tie.spec (λ c. search rules) (λ c. search rules) (λ c. search rules) (λ c. search by_number))

@@ -26,5 +26,5 @@ along-z c =
     vector-eq (value (search (machine, typed) depth 30 fits 5000) tt) (value (search (machine, typed) depth 30 fits 5000) tt) (value (search (machine, typed) depth 30 fits 5000) tt)
     ∙ ap (λ (k : Axis). with_part s.args.v k s.args.z) (third s.requires c.before.before.if1.false c.before.if2.false)
 
-pub with-part-spec : {M : Type 1} → statement M
-with-part-spec = tie.close (tie.spec along-x along-y along-z)
+pub with_part_spec : {M : Type 1} → statement M
+with_part_spec = tie.close (tie.spec along-x along-y along-z)

@@ -4,8 +4,8 @@ use Rattle.call.proofs.Answers.{granted, made}
 use Rattle.call.proofs.answer.Statement.{statement}
 use Rattle.call.proofs.answer.Tie as tie
 
-pub answer-spec : {M : Type 1} → statement M
-answer-spec =
+pub answer_spec : {M : Type 1} → statement M
+answer_spec =
     tie.close
     (tie.spec
     (λ c κs. search rules) (λ c κs. search rules) (λ c. search rules) (λ c. search rules) (λ c κs. search granted)

@@ -17,8 +17,8 @@ of-check c = ap begin_of (sym c.before.call3.given.1)
 of-walk : tie.Need-returns-4
 of-walk c = ap begin_of (sym c.before.call4.given.1)
 
-pub begin-of-spec : {M : Type 1} → statement M
-begin-of-spec =
+pub begin_of_spec : {M : Type 1} → statement M
+begin_of_spec =
     tie.close
     (tie.spec
     (λ c. search rules) (λ c. search rules) (λ c. search rules) (λ c. search rules)

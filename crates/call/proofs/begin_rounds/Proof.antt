@@ -4,8 +4,8 @@ use Rattle.call.proofs.Answers.{beginning, reach-high}
 use Rattle.call.proofs.begin_rounds.Statement.{statement}
 use Rattle.call.proofs.begin_rounds.Tie as tie
 
-pub begin-rounds-spec : {M : Type 1} → statement M
-begin-rounds-spec =
+pub begin_rounds_spec : {M : Type 1} → statement M
+begin_rounds_spec =
     tie.close
     (tie.spec
     (λ c. search rules) (λ c κs. search rules) (λ c. search rules) (λ c κs. search (rules, reach-high))

@@ -34,8 +34,8 @@ no-check c =
     let s = c.before.before.before.before in
     ap Ended (is-answer-from _ c.walk-to-end.ensures.gives) ∙ others-walk s.args.call s.args.scene s.args.bytes.now s.args.level s.args.looks c.before.match.keys2
 
-pub end-call-spec : {M : Type 1} → statement M
-end-call-spec =
+pub end_call_spec : {M : Type 1} → statement M
+end_call_spec =
     tie.close
     (tie.spec
     (λ c. search rules) (λ c κs. search rules) check-hands-back no-check)

@@ -11,5 +11,5 @@ wedge c = height-of-wedge c.before.before.solid.given.1 (value (search (machine,
 stack : tie.Need-returns-2
 stack c = rw c.enum_told.given.1
 
-pub height-of-spec : {M : Type 1} → statement M
-height-of-spec = tie.close (tie.spec (λ c. search rules) (λ c. search rules) wedge stack)
+pub height_of_spec : {M : Type 1} → statement M
+height_of_spec = tie.close (tie.spec (λ c. search rules) (λ c. search rules) wedge stack)

@@ -4,8 +4,8 @@ use Rattle.call.proofs.Answers.{judging-ready}
 use Rattle.call.proofs.judge_ready.Statement.{statement}
 use Rattle.call.proofs.judge_ready.Tie as tie
 
-pub judge-ready-spec : {M : Type 1} → statement M
-judge-ready-spec =
+pub judge_ready_spec : {M : Type 1} → statement M
+judge_ready_spec =
     tie.close
     (tie.spec
     (λ c κs. search rules) (λ c κs. search rules) (λ c. search judging-ready) (λ c. search judging-ready))

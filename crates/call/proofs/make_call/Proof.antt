@@ -9,8 +9,8 @@ returns c =
     let s = c.before.before.before.before.before.before in
     made_again s.ranges.frame s.ranges.reach (record { sfits = c.before.before.height-of.type-inv }) c.before.before.before.before.is-stack.ensures c.before.before.before.Numbers-of.ensures c.before.before.height-of.ensures c.before.solid-of.ensures c.answer.ensures
 
-pub make-call-spec : {M : Type 1} → statement M
-make-call-spec =
+pub make_call_spec : {M : Type 1} → statement M
+make_call_spec =
     tie.close
     (tie.spec
     (λ c κs. search rules) (λ c κs. search rules) (λ c κs. search rules) (λ c κs. search rules) (λ c κs. search rules) returns)

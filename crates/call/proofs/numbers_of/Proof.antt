@@ -11,5 +11,5 @@ wedge c = of-wedge c.before.before.solid.given.1 (value (search (machine, typed)
 stack : tie.Need-returns-2
 stack c = of-stack c.before.before.solid2.given.1 (value (search (machine, typed) depth 30 fits 5000) tt) (value (search (machine, typed) depth 30 fits 5000) tt) (value (search (machine, typed) depth 30 fits 5000) tt)
 
-pub numbers-of-spec : {M : Type 1} → statement M
-numbers-of-spec = tie.close (tie.spec (λ c. search rules) (λ c. search rules) wedge stack)
+pub numbers_of_spec : {M : Type 1} → statement M
+numbers_of_spec = tie.close (tie.spec (λ c. search rules) (λ c. search rules) wedge stack)

@@ -10,5 +10,5 @@ stack c = a-stack c.before.before.args.h (value (search (machine, typed) depth 3
 wedge : tie.Need-returns-2
 wedge c = a-wedge c.before.before.args.h (value (search (machine, typed) depth 30 fits 5000) tt) (value (search (machine, typed) depth 30 fits 5000) tt) (value (search (machine, typed) depth 30 fits 5000) tt) c.before.if1.false (value (search (machine, typed) depth 30 fits 5000) tt)
 
-pub solid-of-spec : {M : Type 1} → statement M
-solid-of-spec = tie.close (tie.spec stack wedge)
+pub solid_of_spec : {M : Type 1} → statement M
+solid_of_spec = tie.close (tie.spec stack wedge)

@@ -3,5 +3,5 @@ use Rattle.choice.proofs.Bits.{keeps}
 use Rattle.choice.proofs.prefer.Statement.{statement}
 use Rattle.choice.proofs.prefer.Tie as tie
 
-pub prefer-spec : {M : Type 1} → statement M
-prefer-spec = tie.close (tie.spec (λ c. search keeps) (λ c. search keeps))
+pub prefer_spec : {M : Type 1} → statement M
+prefer_spec = tie.close (tie.spec (λ c. search keeps) (λ c. search keeps))

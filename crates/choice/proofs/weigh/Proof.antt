@@ -4,5 +4,5 @@ use Rattle.choice.proofs.Bits.{weight-read}
 use Rattle.choice.proofs.weigh.Statement.{statement}
 use Rattle.choice.proofs.weigh.Tie as tie
 
-pub weigh-spec : {M : Type 1} → statement M
-weigh-spec = tie.close (tie.spec (λ c κs. search rules) (λ c. search weight-read))
+pub weigh_spec : {M : Type 1} → statement M
+weigh_spec = tie.close (tie.spec (λ c κs. search rules) (λ c. search weight-read))

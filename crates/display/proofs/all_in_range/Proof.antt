@@ -5,5 +5,5 @@ use Rattle.range.specs.Judged.{judged}
 use Rattle.display.proofs.all_in_range.Statement.{statement}
 use Rattle.display.proofs.all_in_range.Tie as tie
 
-pub all-in-range-spec : {M : Type 1} → statement M
-all-in-range-spec = tie.close (tie.spec (λ c κs. search rules) (λ c κs. search rules) (λ c κs. search rules) (λ c. value (search judged depth 30 fits 5000) tt))
+pub all_in_range_spec : {M : Type 1} → statement M
+all_in_range_spec = tie.close (tie.spec (λ c κs. search rules) (λ c κs. search rules) (λ c κs. search rules) (λ c. value (search judged depth 30 fits 5000) tt))

@@ -13,8 +13,8 @@ ruleset shown = (promise-back, shows)
 unlit : tie.Need-returns
 unlit c = search all-zero
 
-pub display-normal-spec : {M : Type 1} → statement M
-display-normal-spec =
+pub display_normal_spec : {M : Type 1} → statement M
+display_normal_spec =
     tie.close
     (tie.spec
     (λ c κs. search rules) unlit

@@ -4,8 +4,8 @@ use Rattle.display.proofs.Guesses.{guess-fits}
 use Rattle.display.proofs.guess.Statement.{statement}
 use Rattle.display.proofs.guess.Tie as tie
 
-pub guess-spec : {M : Type 1} → statement M
-guess-spec =
+pub guess_spec : {M : Type 1} → statement M
+guess_spec =
     tie.close
     (tie.spec
     (λ c κs. search rules) (λ c. search rules) (λ c. search guess-fits)

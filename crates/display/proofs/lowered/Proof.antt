@@ -11,8 +11,8 @@ invariant-loop s t guess m₀ m = Small s m
 abbrev decreases-loop : tie.decreases-loop
 decreases-loop s t guess m₀ m = m
 
-pub lowered-spec : {M : Type 1} → statement M
-lowered-spec =
+pub lowered_spec : {M : Type 1} → statement M
+lowered_spec =
     tie.close
     (tie.spec
     invariant-loop

@@ -4,8 +4,8 @@ use Rattle.display.proofs.Guesses.{step-square-fits, step-product-fits, step_fit
 use Rattle.display.proofs.nearer.Statement.{statement}
 use Rattle.display.proofs.nearer.Tie as tie
 
-pub nearer-spec : {M : Type 1} → statement M
-nearer-spec =
+pub nearer_spec : {M : Type 1} → statement M
+nearer_spec =
     tie.close
     (tie.spec
     (λ c. search step-square-fits) (λ c. search step-product-fits)

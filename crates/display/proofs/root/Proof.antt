@@ -16,8 +16,8 @@ decreases-loop s t from m₀ m = 32769 - m
 one_more : tie.Need-loop-preserved invariant-loop decreases-loop
 one_more c = from_low (omega arith) (omega arith) (omega arith)
 
-pub root-spec : {M : Type 1} → statement M
-root-spec =
+pub root_spec : {M : Type 1} → statement M
+root_spec =
     tie.close
     (tie.spec
     invariant-loop

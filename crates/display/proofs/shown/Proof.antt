@@ -8,8 +8,8 @@ use Rattle.display.proofs.shown.Tie as tie
 below-zero : tie.Need-returns
 below-zero c = search shown-below
 
-pub shown-spec : {M : Type 1} → statement M
-shown-spec =
+pub shown_spec : {M : Type 1} → statement M
+shown_spec =
     tie.close
     (tie.spec
     (λ c κs. search sized-back)

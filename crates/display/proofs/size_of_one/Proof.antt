@@ -4,8 +4,8 @@ use Rattle.display.proofs.Guesses.{shift_fits, shift-inside, half-fits, half-ins
 use Rattle.display.proofs.size_of_one.Statement.{statement}
 use Rattle.display.proofs.size_of_one.Tie as tie
 
-pub size-of-one-spec : {M : Type 1} → statement M
-size-of-one-spec =
+pub size_of_one_spec : {M : Type 1} → statement M
+size_of_one_spec =
     tie.close
     (tie.spec
     (λ c. search shift_fits) (λ c. search shift-inside) (λ c κs. search rules) (λ c. search rules)

@@ -8,8 +8,8 @@ use Rattle.display.proofs.size_over.Tie as tie
 not-too-large : tie.Need-root-requires
 not-too-large c κs = search root-asks
 
-pub size-over-spec : {M : Type 1} → statement M
-size-over-spec =
+pub size_over_spec : {M : Type 1} → statement M
+size_over_spec =
     tie.close
     (tie.spec
     (λ c κs. search rules) (λ c. search target_fits)

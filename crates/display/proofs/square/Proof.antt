@@ -4,6 +4,6 @@ use Rattle.display.proofs.Squares.{square-fits, square-is}
 use Rattle.display.proofs.square.Statement.{statement}
 use Rattle.display.proofs.square.Tie as tie
 
-pub square-spec : {M : Type 1} → statement M
-square-spec =
+pub square_spec : {M : Type 1} → statement M
+square_spec =
     tie.close (tie.spec (λ c κs. search rules) (λ c. search rules) (λ c. search square-fits) (λ c. search square-is))

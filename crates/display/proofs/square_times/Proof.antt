@@ -4,6 +4,6 @@ use Rattle.display.proofs.Roots.{small-square-fits, small-square-widens, small-p
 use Rattle.display.proofs.square_times.Statement.{statement}
 use Rattle.display.proofs.square_times.Tie as tie
 
-pub square-times-spec : {M : Type 1} → statement M
-square-times-spec =
+pub square_times_spec : {M : Type 1} → statement M
+square_times_spec =
     tie.close (tie.spec (λ c. search small-square-fits) (λ c. search small-square-widens) (λ c. search small-product-fits) (λ c. search rules))

@@ -15,5 +15,5 @@ returns : tie.Need-returns
 unfolding of_int
 returns c = record { value = round_whole binary32 false c.before.args.m (le_trans c.before.requires (lit≤ tt)) }
 
-pub whole-spec : {M : Type 1} → statement M
-whole-spec = tie.close (tie.spec int-to-float-result returns)
+pub whole_spec : {M : Type 1} → statement M
+whole_spec = tie.close (tie.spec int-to-float-result returns)

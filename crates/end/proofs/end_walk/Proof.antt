@@ -8,8 +8,8 @@ use Rattle.end.proofs.end_walk.Tie as tie
 accepted : tie.Need-returns
 accepted c = search ending
 
-pub end-walk-spec : {M : Type 1} → statement M
-end-walk-spec =
+pub end_walk_spec : {M : Type 1} → statement M
+end_walk_spec =
     tie.close
     (tie.spec
     (λ c κs. search ends-fit) (λ c κs. search ends-fit) (λ c κs. search ends-fit) (λ c κs. search ends-fit) (λ c κs. search ends-fit)

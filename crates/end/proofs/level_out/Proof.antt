@@ -28,8 +28,8 @@ returns c =
     (back w32 y.unless-level2.result y.unless-level2.type-inv ∙ part v.y s.requires.in-y y.unless-level2.ensures)
     (back w32 c.unless-level3.result c.unless-level3.type-inv ∙ part v.z s.requires.in-z c.unless-level3.ensures)
 
-pub level-out-spec : {M : Type 1} → statement M
-level-out-spec =
+pub level_out_spec : {M : Type 1} → statement M
+level_out_spec =
     tie.close
     (tie.spec
     (λ c κs. search rules) (λ c κs. search rules) (λ c κs. search rules) returns)

@@ -22,8 +22,8 @@ returns c =
     let m = d.before.before.before.before.before.before.args.m in
     normal-is m d.before.before.cross.ensures d.before.cross2.ensures d.cross3.ensures c.before.add.ensures c.add2.ensures
 
-pub normal-of-spec : {M : Type 1} → statement M
-normal-of-spec =
+pub normal_of_spec : {M : Type 1} → statement M
+normal_of_spec =
     tie.close
     (tie.spec
     (λ c κs. search rules) (λ c κs. search rules) (λ c κs. search rules)

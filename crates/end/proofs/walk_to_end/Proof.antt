@@ -9,8 +9,8 @@ end-walk-requires c κs =
     let walked = c.before.before.before in
     (end-sound walked.walk-on.ensures c.before.walked2.given.1, walked.before.before.requires.0.signed)
 
-pub walk-to-end-spec : {M : Type 1} → statement M
-walk-to-end-spec =
+pub walk_to_end_spec : {M : Type 1} → statement M
+walk_to_end_spec =
     tie.close
     (tie.spec
     (λ c κs. search rules) (λ c. search rules) (λ c. search rules)

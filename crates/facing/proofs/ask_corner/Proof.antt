@@ -8,8 +8,8 @@ use Rattle.facing.proofs.ask_corner.Tie as tie
 filled : tie.Need-returns-4
 filled c = search asking-corner
 
-pub ask-corner-spec : {M : Type 1} → statement M
-ask-corner-spec =
+pub ask_corner_spec : {M : Type 1} → statement M
+ask_corner_spec =
     tie.close
     (tie.spec
     (λ c. search rules) (λ c. search rules) (λ c κs. search apex-fits)

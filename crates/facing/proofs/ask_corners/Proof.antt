@@ -7,8 +7,8 @@ use Rattle.facing.proofs.ask_corners.Tie as tie
 in-turn : tie.Need-returns
 in-turn c = search three-corners
 
-pub ask-corners-spec : {M : Type 1} → statement M
-ask-corners-spec =
+pub ask_corners_spec : {M : Type 1} → statement M
+ask_corners_spec =
     tie.close
     (tie.spec
     (λ c κs. search rules) (λ c κs. search rules) (λ c κs. search rules) in-turn)

@@ -4,8 +4,8 @@ use Rattle.facing.proofs.Corners.{is-corner}
 use Rattle.facing.proofs.corner.Statement.{statement}
 use Rattle.facing.proofs.corner.Tie as tie
 
-pub corner-spec : {M : Type 1} → statement M
-corner-spec =
+pub corner_spec : {M : Type 1} → statement M
+corner_spec =
     tie.close
     (tie.spec
     (λ c κs. search fitting) (λ c κs. search fitting) (λ c. search is-corner))

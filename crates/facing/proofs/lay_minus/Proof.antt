@@ -4,8 +4,8 @@ use Rattle.facing.proofs.Units.{fitting}
 use Rattle.facing.proofs.lay_minus.Statement.{statement}
 use Rattle.facing.proofs.lay_minus.Tie as tie
 
-pub lay-minus-spec : {M : Type 1} → statement M
-lay-minus-spec =
+pub lay_minus_spec : {M : Type 1} → statement M
+lay_minus_spec =
     tie.close
     (tie.spec
     (λ c κs. search rules) (λ c κs. search fitting)

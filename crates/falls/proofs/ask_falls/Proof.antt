@@ -86,8 +86,8 @@ again c =
 
 ruleset fallen = (fallen-back, looked)
 
-pub ask-falls-spec : {M : Type 1} → statement M
-ask-falls-spec =
+pub ask_falls_spec : {M : Type 1} → statement M
+ask_falls_spec =
     tie.close
     (tie.spec
     invariant-loop

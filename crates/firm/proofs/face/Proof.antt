@@ -7,8 +7,8 @@ use Rattle.firm.proofs.face.Tie as tie
 start-empty : tie.Need-returns-3
 start-empty c = search facing-start
 
-pub face-spec : {M : Type 1} → statement M
-face-spec =
+pub face_spec : {M : Type 1} → statement M
+face_spec =
     tie.close
     (tie.spec
     (λ c κs. search rules) (λ c κs. search rules) (λ c κs. search rules) (λ c κs. search rules)

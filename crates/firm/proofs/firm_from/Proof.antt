@@ -7,8 +7,8 @@ use Rattle.firm.proofs.firm_from.Tie as tie
 stands : tie.Need-returns-2
 stands c = search standing-from
 
-pub firm-from-spec : {M : Type 1} → statement M
-firm-from-spec =
+pub firm_from_spec : {M : Type 1} → statement M
+firm_from_spec =
     tie.close
     (tie.spec
     (λ c κs. search rules) (λ c κs. search rules) (λ c. search rules) (λ c. search rules) (λ c κs. search granted)

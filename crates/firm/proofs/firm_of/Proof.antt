@@ -7,5 +7,5 @@ use Rattle.firm.proofs.firm_of.Tie as tie
 pick-refused : tie.Need-returns-2
 pick-refused c = search of-answer
 
-pub firm-of-spec : {M : Type 1} → statement M
-firm-of-spec = tie.close (tie.spec (λ c. search rules) (λ c κs. search rules) (λ c. search rules) (λ c κs. search rules) (λ c. search of-answer) pick-refused)
+pub firm_of_spec : {M : Type 1} → statement M
+firm_of_spec = tie.close (tie.spec (λ c. search rules) (λ c κs. search rules) (λ c. search rules) (λ c κs. search rules) (λ c. search of-answer) pick-refused)

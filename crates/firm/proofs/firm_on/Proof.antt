@@ -25,8 +25,8 @@ permitted-and-reach-small c κs =
 solid-refused : tie.Need-returns-2
 solid-refused c = search on
 
-pub firm-on-spec : {M : Type 1} → statement M
-firm-on-spec =
+pub firm_on_spec : {M : Type 1} → statement M
+firm_on_spec =
     tie.close
     (tie.spec
     (λ c κs. search rules) (λ c κs. search rules) (λ c κs. search rules) frame-fits reach-fits permitted-and-reach-small

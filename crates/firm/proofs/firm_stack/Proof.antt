@@ -7,5 +7,5 @@ use Rattle.firm.proofs.firm_stack.Tie as tie
 as-its-solid : tie.Need-returns
 as-its-solid c = search of-stack
 
-pub firm-stack-spec : {M : Type 1} → statement M
-firm-stack-spec = tie.close (tie.spec (λ c κs. search rules) as-its-solid)
+pub firm_stack_spec : {M : Type 1} → statement M
+firm_stack_spec = tie.close (tie.spec (λ c κs. search rules) as-its-solid)

@@ -14,8 +14,8 @@ firm-from-requires c κs =
 from-the-start : tie.Need-returns
 from-the-start c = search under
 
-pub firm-under-spec : {M : Type 1} → statement M
-firm-under-spec =
+pub firm_under_spec : {M : Type 1} → statement M
+firm_under_spec =
     tie.close
     (tie.spec
     (λ c κs. search rules) (λ c κs. search rules) (λ c κs. search signs-small) (λ c κs. search rules)

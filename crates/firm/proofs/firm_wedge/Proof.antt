@@ -7,5 +7,5 @@ use Rattle.firm.proofs.firm_wedge.Tie as tie
 as-its-solid : tie.Need-returns
 as-its-solid c = search of-wedge
 
-pub firm-wedge-spec : {M : Type 1} → statement M
-firm-wedge-spec = tie.close (tie.spec (λ c. search rules) (λ c κs. search rules) as-its-solid)
+pub firm_wedge_spec : {M : Type 1} → statement M
+firm_wedge_spec = tie.close (tie.spec (λ c. search rules) (λ c κs. search rules) as-its-solid)

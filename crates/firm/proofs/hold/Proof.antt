@@ -22,8 +22,8 @@ kept c =
     ∙ value (search (machine, typed) depth 30 fits 5000) tt
     ∙ held_kept _ (without-bits c.before.if1.false (search (machine, typed) depth 30 fits 5000) tt) (without-bits c.if2.false (search (machine, typed) depth 30 fits 5000) tt)
 
-pub hold-spec : {M : Type 1} → statement M
-hold-spec =
+pub hold_spec : {M : Type 1} → statement M
+hold_spec =
     tie.close
     (tie.spec
     (λ c. fits (search (machine, typed) depth 30 fits 5000) tt) (λ c. fits (search (machine, typed) depth 30 fits 5000) tt)

@@ -13,8 +13,8 @@ empty c = seen_as c.before.before.look_at.ensures c.enum-told2.given.1
 outside : tie.Need-returns-3
 outside c = seen_as c.before.before.look_at.ensures c.enum-told3.given.1
 
-pub is-filled-spec : {M : Type 1} → statement M
-is-filled-spec =
+pub is_filled_spec : {M : Type 1} → statement M
+is_filled_spec =
     tie.close
     (tie.spec
     (λ c κs. search rules) (λ c. search rules) (λ c. search rules) (λ c. search rules)

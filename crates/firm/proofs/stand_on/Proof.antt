@@ -4,5 +4,5 @@ use Rattle.firm.proofs.Standing.{power-low, stood_on}
 use Rattle.firm.proofs.stand_on.Statement.{statement}
 use Rattle.firm.proofs.stand_on.Tie as tie
 
-pub stand-on-spec : {M : Type 1} → statement M
-stand-on-spec = tie.close (tie.spec (λ c κs. search rules) (λ c κs. search (rules, power-low)) (λ c. search stood_on))
+pub stand_on_spec : {M : Type 1} → statement M
+stand_on_spec = tie.close (tie.spec (λ c κs. search rules) (λ c κs. search (rules, power-low)) (λ c. search stood_on))

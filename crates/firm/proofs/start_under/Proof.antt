@@ -18,5 +18,5 @@ by_parts c =
     (back w32 _ y.hold2.type-inv ∙ y.hold2.ensures ∙ ap held (value (search (machine, typed) depth 30 fits 5000) tt))
     (back w32 _ c.hold3.type-inv ∙ c.hold3.ensures ∙ ap held (value (search (machine, typed) depth 30 fits 5000) tt))
 
-pub start-under-spec : {M : Type 1} → statement M
-start-under-spec = tie.close (tie.spec (λ c κs. search rules) (λ c κs. search rules) (λ c κs. search rules) by_parts)
+pub start_under_spec : {M : Type 1} → statement M
+start_under_spec = tie.close (tie.spec (λ c κs. search rules) (λ c κs. search rules) (λ c κs. search rules) by_parts)

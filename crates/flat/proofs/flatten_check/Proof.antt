@@ -11,5 +11,5 @@ ready c = rw c.flatten-ready.ensures (ap flat_check (sym c.before.before.answer.
 refused : tie.Need-returns-2
 refused c = ap flat_check (sym c.before.before.answer2.given.1)
 
-pub flatten-check-spec : {M : Type 1} → statement M
-flatten-check-spec = tie.close (tie.spec (λ c. search rules) (λ c κs. search rules) (λ c. search rules) ready refused)
+pub flatten_check_spec : {M : Type 1} → statement M
+flatten_check_spec = tie.close (tie.spec (λ c. search rules) (λ c κs. search rules) (λ c. search rules) ready refused)

@@ -13,5 +13,5 @@ returns-2 : tie.Need-returns-2
 unfolding of_bits
 returns-2 c = ap flat_display (sym c.before.answer2.given.1)
 
-pub flatten-display-spec : {M : Type 1} → statement M
-flatten-display-spec = tie.close (tie.spec (λ c. search rules) (λ c. search rules) returns returns-2)
+pub flatten_display_spec : {M : Type 1} → statement M
+flatten_display_spec = tie.close (tie.spec (λ c. search rules) (λ c. search rules) returns returns-2)

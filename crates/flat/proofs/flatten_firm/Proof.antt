@@ -11,5 +11,5 @@ stands c = ap flat_firm (sym c.before.before.answer.given.1)
 refused : tie.Need-returns-2
 refused c = ap flat_firm (sym c.before.before.answer2.given.1)
 
-pub flatten-firm-spec : {M : Type 1} → statement M
-flatten-firm-spec = tie.close (tie.spec (λ c. search rules) (λ c. search rules) stands refused)
+pub flatten_firm_spec : {M : Type 1} → statement M
+flatten_firm_spec = tie.close (tie.spec (λ c. search rules) (λ c. search rules) stands refused)

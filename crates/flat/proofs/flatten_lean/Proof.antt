@@ -11,5 +11,5 @@ known c = ap flat_lean (sym c.before.answer.given.1)
 unknown : tie.Need-returns-2
 unknown c = ap flat_lean (sym c.before.answer2.given.1)
 
-pub flatten-lean-spec : {M : Type 1} → statement M
-flatten-lean-spec = tie.close (tie.spec (λ c. search rules) (λ c. search rules) known unknown)
+pub flatten_lean_spec : {M : Type 1} → statement M
+flatten_lean_spec = tie.close (tie.spec (λ c. search rules) (λ c. search rules) known unknown)

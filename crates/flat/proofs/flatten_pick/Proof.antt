@@ -11,5 +11,5 @@ returns c = ap flat_pick (sym c.before.before.before.before.before.before.before
 returns-2 : tie.Need-returns-2
 returns-2 c = ap flat_pick (sym c.before.before.answer2.given.1)
 
-pub flatten-pick-spec : {M : Type 1} → statement M
-flatten-pick-spec = tie.close (tie.spec (λ c. search rules) (λ c. search rules) returns returns-2)
+pub flatten_pick_spec : {M : Type 1} → statement M
+flatten_pick_spec = tie.close (tie.spec (λ c. search rules) (λ c. search rules) returns returns-2)

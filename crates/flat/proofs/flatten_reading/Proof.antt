@@ -23,8 +23,8 @@ returns c =
 returns-2 : tie.Need-returns-2
 returns-2 c = ap flat_reading (sym c.before.answer2.given.1)
 
-pub flatten-reading-spec : {M : Type 1} → statement M
-flatten-reading-spec =
+pub flatten_reading_spec : {M : Type 1} → statement M
+flatten_reading_spec =
     tie.close
     (tie.spec
     (λ c. search rules) (λ c κs. search rules) (λ c κs. search rules) (λ c κs. search rules) (λ c. search rules)

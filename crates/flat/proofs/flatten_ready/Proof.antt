@@ -6,5 +6,5 @@ use Rattle.flat.proofs.flatten_ready.Tie as tie
 returns : tie.Need-returns
 returns c = rw c.mask-of.ensures
 
-pub flatten-ready-spec : {M : Type 1} → statement M
-flatten-ready-spec = tie.close (tie.spec (λ c κs. search rules) returns)
+pub flatten_ready_spec : {M : Type 1} → statement M
+flatten_ready_spec = tie.close (tie.spec (λ c κs. search rules) returns)

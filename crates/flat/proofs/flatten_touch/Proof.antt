@@ -12,8 +12,8 @@ guessed c = c.with-guess.ensures ∙ ap (λ (r : FlatPick). with_guess 1 r) c.be
 refused : tie.Need-returns-2
 refused c = c.with-guess2.ensures ∙ ap (λ (r : FlatPick). with_guess 0 r) c.before.flatten-pick2.ensures ∙ ap flat_touch (sym c.before.before.before.answer2.given.1)
 
-pub flatten-touch-spec : {M : Type 1} → statement M
-flatten-touch-spec =
+pub flatten_touch_spec : {M : Type 1} → statement M
+flatten_touch_spec =
     tie.close
     (tie.spec
     (λ c. search rules) (λ c κs. search rules) (λ c κs. search rules) (λ c. search rules) (λ c κs. search rules) (λ c κs. search rules) guessed refused)

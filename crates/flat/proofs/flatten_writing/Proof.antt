@@ -11,5 +11,5 @@ returns c = ap flat_writing (sym c.before.answer.given.1)
 returns-2 : tie.Need-returns-2
 returns-2 c = ap flat_writing (sym c.before.answer2.given.1)
 
-pub flatten-writing-spec : {M : Type 1} → statement M
-flatten-writing-spec = tie.close (tie.spec (λ c. search rules) (λ c. search rules) returns returns-2)
+pub flatten_writing_spec : {M : Type 1} → statement M
+flatten_writing_spec = tie.close (tie.spec (λ c. search rules) (λ c. search rules) returns returns-2)

@@ -12,5 +12,5 @@ refused : tie.Need-returns-2
 unfolding handed_pick
 refused c = rw (ne_eqb c.before.before.before.args.pick.number 0 c.before.if1.false, handed_pick)
 
-pub handed-pick-spec : {M : Type 1} → statement M
-handed-pick-spec = tie.close (tie.spec accepted refused)
+pub handed_pick_spec : {M : Type 1} → statement M
+handed_pick_spec = tie.close (tie.spec accepted refused)

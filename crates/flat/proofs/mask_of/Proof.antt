@@ -34,8 +34,8 @@ four-times-fits c = omega (arith, bits c.before.before.before.args.level)
 three-fit : tie.Need-overflow-add-result-2
 three-fit c = omega (arith, bits c.before.before.before.args.level)
 
-pub mask-of-spec : {M : Type 1} → statement M
-mask-of-spec =
+pub mask_of_spec : {M : Type 1} → statement M
+mask_of_spec =
     tie.close
     (tie.spec
     (λ c. search rules) (λ c. search rules) (λ c. search rules)

@@ -6,5 +6,5 @@ use Rattle.flat.proofs.ready_of.Tie as tie
 returns : tie.Need-returns
 returns c = rw c.levels-of.ensures
 
-pub ready-of-spec : {M : Type 1} → statement M
-ready-of-spec = tie.close (tie.spec (λ c κs. search rules) returns)
+pub ready_of_spec : {M : Type 1} → statement M
+ready_of_spec = tie.close (tie.spec (λ c κs. search rules) returns)

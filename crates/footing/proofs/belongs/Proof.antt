@@ -8,8 +8,8 @@ use Rattle.footing.proofs.belongs.Tie as tie
 either-axis : tie.Need-returns
 either-axis c = search pair-belongs
 
-pub belongs-spec : {M : Type 1} → statement M
-belongs-spec =
+pub belongs_spec : {M : Type 1} → statement M
+belongs_spec =
     tie.close
     (tie.spec
     (λ c κs. search rules) (λ c κs. search index_below) (λ c κs. search rules) (λ c κs. search index_below) either-axis

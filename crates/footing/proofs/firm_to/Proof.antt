@@ -23,8 +23,8 @@ stopped c = search rising
 ends : tie.Need-returns-2 invariant-loop decreases-loop
 ends c = search rising
 
-pub firm-to-spec : {M : Type 1} → statement M
-firm-to-spec =
+pub firm_to_spec : {M : Type 1} → statement M
+firm_to_spec =
     tie.close
     (tie.spec
     invariant-loop

@@ -28,8 +28,8 @@ again c = ⊎_elim (λ w. search around-looking) (λ w. search around-looking) c
 ends : tie.Need-returns-2 invariant-loop decreases-loop
 ends c = search around-looking
 
-pub look-around-spec : {M : Type 1} → statement M
-look-around-spec =
+pub look_around_spec : {M : Type 1} → statement M
+look_around_spec =
     tie.close
     (tie.spec
     invariant-loop

@@ -11,8 +11,8 @@ empty c = search looking
 outside : tie.Need-returns-3
 outside c = search looking
 
-pub look-out-spec : {M : Type 1} → statement M
-look-out-spec =
+pub look_out_spec : {M : Type 1} → statement M
+look_out_spec =
     tie.close
     (tie.spec
     (λ c κs. search rules) (λ c κs. search reaching) (λ c κs. search reaching) (λ c κs. search rules)

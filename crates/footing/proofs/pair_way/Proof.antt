@@ -8,8 +8,8 @@ use Rattle.footing.proofs.pair_way.Tie as tie
 difference : tie.Need-returns
 difference c = search pair-way-made
 
-pub pair-way-spec : {M : Type 1} → statement M
-pair-way-spec =
+pub pair_way_spec : {M : Type 1} → statement M
+pair_way_spec =
     tie.close
     (tie.spec
     (λ c κs. search rules) (λ c κs. search rules) (λ c κs. search index_below) (λ c κs. search index_below) (λ c κs. search vector-fits)

@@ -7,8 +7,8 @@ use Rattle.footing.proofs.way_of.Tie as tie
 along : tie.Need-returns-2
 along c = search units
 
-pub way-of-spec : {M : Type 1} → statement M
-way-of-spec =
+pub way_of_spec : {M : Type 1} → statement M
+way_of_spec =
     tie.close
     (tie.spec
     (λ c κs. search rules) (λ c. search pair-way-is) (λ c κs. search rules)

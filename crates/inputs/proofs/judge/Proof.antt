@@ -56,8 +56,8 @@ places-judged c =
     judged-read start.ranges.frame start.ranges.reach
     (judged-placed reach.before.is-between.ensures frame.before.is-between2.ensures solid.before.is-permitted.ensures reach.if1.true frame.if2.true solid.if3.true c.judge-places.ensures)
 
-pub judge-spec : {M : Type 1} → statement M
-judge-spec =
+pub judge_spec : {M : Type 1} → statement M
+judge_spec =
     tie.close
     (tie.spec
     (λ c κs. search rules) (λ c κs. search rules) (λ c κs. search rules)

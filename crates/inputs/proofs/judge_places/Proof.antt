@@ -35,8 +35,8 @@ both-inside c =
     placed-inside s.requires.0 grid.grid-of.ensures start.start_of_lem.ensures inside.is-inside.ensures signs.signs_of.ensures apex.apex-of.ensures judged.is-inside2.ensures signs.before.if1.true
     (back w32 _ c.rank-of.type-inv ∙ c.rank-of.ensures) span.Span-of.ensures c.before.if2.true s.requires.1
 
-pub judge-places-spec : {M : Type 1} → statement M
-judge-places-spec =
+pub judge_places_spec : {M : Type 1} → statement M
+judge_places_spec =
     tie.close
     (tie.spec
     (λ c κs. search rules) (λ c κs. search rules) (λ c κs. search rules) (λ c κs. search rules)

@@ -16,8 +16,8 @@ returns c =
     (back w32 c.before.sign-of2.result c.before.sign-of2.type-inv ∙ c.before.sign-of2.ensures)
     (back w32 c.sign-of3.result c.sign-of3.type-inv ∙ c.sign-of3.ensures)
 
-pub signs-of-spec : {M : Type 1} → statement M
-signs-of-spec =
+pub signs_of_spec : {M : Type 1} → statement M
+signs_of_spec =
     tie.close
     (tie.spec
     (λ c κs. search rules) (λ c κs. search rules) (λ c κs. search rules) returns)

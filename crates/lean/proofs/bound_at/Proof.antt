@@ -34,8 +34,8 @@ returns : tie.Need-returns
 unfolding bound_at
 returns c = rw (c.before.spread-of.ensures, c.before.before.levels-of.ensures, c.squared.ensures)
 
-pub bound-at-spec : {M : Type 1} → statement M
-bound-at-spec =
+pub bound_at_spec : {M : Type 1} → statement M
+bound_at_spec =
     tie.close
     (tie.spec
     (λ c κs. search rules) triangle-fits (λ c. search rules) normal-fits (λ c. search rules)

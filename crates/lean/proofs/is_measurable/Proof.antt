@@ -17,5 +17,5 @@ returns c =
       level.levels-of.ensures,
     )
 
-pub is-measurable-spec : {M : Type 1} → statement M
-is-measurable-spec = tie.close (tie.spec (λ c κs. search rules) (λ c κs. search rules) (λ c κs. search rules) (λ c κs. search rules) (λ c κs. search rules) returns)
+pub is_measurable_spec : {M : Type 1} → statement M
+is_measurable_spec = tie.close (tie.spec (λ c κs. search rules) (λ c κs. search rules) (λ c κs. search rules) (λ c κs. search rules) (λ c κs. search rules) returns)

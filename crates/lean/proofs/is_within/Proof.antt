@@ -19,5 +19,5 @@ returns c =
       back w32 _ told.1.1.0.1,
     )
 
-pub is-within-spec : {M : Type 1} → statement M
-is-within-spec = tie.close (tie.spec (λ c κs. search rules) (λ c κs. search rules) (λ c κs. search rules) returns)
+pub is_within_spec : {M : Type 1} → statement M
+is_within_spec = tie.close (tie.spec (λ c κs. search rules) (λ c κs. search rules) (λ c κs. search rules) returns)

@@ -13,8 +13,8 @@ unknown c = search unknown-promised
 refused : tie.Need-returns-3
 refused c = search refused-promised
 
-pub known-lean-spec : {M : Type 1} → statement M
-known-lean-spec =
+pub known_lean_spec : {M : Type 1} → statement M
+known_lean_spec =
     tie.close
     (tie.spec
     (λ c. search rules) (λ c κs. search rules) (λ c κs. search rules)

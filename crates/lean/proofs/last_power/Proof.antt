@@ -11,8 +11,8 @@ invariant-loop reach power₀ power = Lasting reach power
 abbrev decreases-loop : tie.decreases-loop
 decreases-loop reach power₀ power = 512 - power
 
-pub last-power-spec : {M : Type 1} → statement M
-last-power-spec =
+pub last_power_spec : {M : Type 1} → statement M
+last_power_spec =
     tie.close
     (tie.spec
     invariant-loop

@@ -8,5 +8,5 @@ returns c =
     let told = c.struct-told3.given in
     zeros-read c.before.before.before.before.before.before.args.n (record { sfits = told.0.1 }) (record { sfits = told.1.0.1 }) (record { sfits = told.1.1.0.1 })
 
-pub levels-of-spec : {M : Type 1} → statement M
-levels-of-spec = tie.close (tie.spec returns)
+pub levels_of_spec : {M : Type 1} → statement M
+levels_of_spec = tie.close (tie.spec returns)

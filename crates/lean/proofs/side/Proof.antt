@@ -12,5 +12,5 @@ way-low c κs = let asks = c.before.before.requires in bounded-is c.subtract.ens
 taken : tie.Need-returns
 taken c = record { is = rw c.before.before.if1.true (c.squared.ensures ∙ ap squared c.before.subtract.ensures) }
 
-pub side-spec : {M : Type 1} → statement M
-side-spec = tie.close (tie.spec (λ c κs. search rules) way-low taken (λ c. search rules))
+pub side_spec : {M : Type 1} → statement M
+side_spec = tie.close (tie.spec (λ c κs. search rules) way-low taken (λ c. search rules))

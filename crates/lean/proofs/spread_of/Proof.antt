@@ -10,8 +10,8 @@ sum_fits c = search sum_low
 returns : tie.Need-returns
 returns c = search sum_is
 
-pub spread-of-spec : {M : Type 1} → statement M
-spread-of-spec =
+pub spread_of_spec : {M : Type 1} → statement M
+spread_of_spec =
     tie.close
     (tie.spec
     (λ c κs. search rules) (λ c κs. search rules) (λ c κs. search rules)

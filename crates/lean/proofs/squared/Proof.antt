@@ -12,5 +12,5 @@ returns : tie.Need-returns
 unfolding squared
 returns c = c.type_size.ensures ∙ ap nat_abs (back w32 _ c.before.dot.type-inv ∙ c.before.dot.ensures)
 
-pub squared-spec : {M : Type 1} → statement M
-squared-spec = tie.close (tie.spec (λ c κs. search rules) (λ c κs. search rules) returns)
+pub squared_spec : {M : Type 1} → statement M
+squared_spec = tie.close (tie.spec (λ c κs. search rules) (λ c κs. search rules) returns)

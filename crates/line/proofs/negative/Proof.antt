@@ -4,8 +4,8 @@ use Rattle.line.proofs.Numbers.{negative-zero, opposite-fits, negative-whole, ne
 use Rattle.line.proofs.negative.Statement.{statement}
 use Rattle.line.proofs.negative.Tie as tie
 
-pub negative-spec : {M : Type 1} → statement M
-negative-spec =
+pub negative_spec : {M : Type 1} → statement M
+negative_spec =
     tie.close
     (tie.spec
     (λ c. search rules) (λ c. search negative-zero)

@@ -4,8 +4,8 @@ use Rattle.line.proofs.Numbers.{positive-whole, positive-outside}
 use Rattle.line.proofs.positive.Statement.{statement}
 use Rattle.line.proofs.positive.Tie as tie
 
-pub positive-spec : {M : Type 1} → statement M
-positive-spec =
+pub positive_spec : {M : Type 1} → statement M
+positive_spec =
     tie.close
     (tie.spec
     (λ c. search rules) (λ c. search rules) (λ c. search positive-whole)

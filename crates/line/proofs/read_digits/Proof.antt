@@ -13,8 +13,8 @@ invariant-loop part i₀ v₀ i v = Reading part i v
 abbrev decreases-loop : tie.decreases-loop
 decreases-loop part i₀ v₀ i v = length part - i
 
-pub read-digits-spec : {M : Type 1} → statement M
-read-digits-spec =
+pub read_digits_spec : {M : Type 1} → statement M
+read_digits_spec =
     tie.close
     (tie.spec
     invariant-loop

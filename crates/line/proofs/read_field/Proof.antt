@@ -4,8 +4,8 @@ use Rattle.line.proofs.Fields.{past_end, holds, holds_not}
 use Rattle.line.proofs.read_field.Statement.{statement}
 use Rattle.line.proofs.read_field.Tie as tie
 
-pub read-field-spec : {M : Type 1} → statement M
-read-field-spec =
+pub read_field_spec : {M : Type 1} → statement M
+read_field_spec =
     tie.close
     (tie.spec
     (λ c. search past_end)

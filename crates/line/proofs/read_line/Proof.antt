@@ -7,8 +7,8 @@ use Rattle.line.proofs.read_line.Tie as tie
 nine-numbers : tie.Need-returns-5
 nine-numbers c = let earlier = c.before.before.before.before.before.before in search asks
 
-pub read-line-spec : {M : Type 1} → statement M
-read-line-spec =
+pub read_line_spec : {M : Type 1} → statement M
+read_line_spec =
     tie.close
     (tie.spec
     (λ c κs. search rules) (λ c. search rules) (λ c. search rules) (λ c. search no-first-three)

@@ -4,8 +4,8 @@ use Rattle.line.proofs.Numbers.{empty, with-minus, without-minus}
 use Rattle.line.proofs.read_number.Statement.{statement}
 use Rattle.line.proofs.read_number.Tie as tie
 
-pub read-number-spec : {M : Type 1} → statement M
-read-number-spec =
+pub read_number_spec : {M : Type 1} → statement M
+read_number_spec =
     tie.close
     (tie.spec
     (λ c. search empty)

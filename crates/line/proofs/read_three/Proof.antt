@@ -4,8 +4,8 @@ use Rattle.line.proofs.Threes.{no-first, no_second, no_third, all_three}
 use Rattle.line.proofs.read_three.Statement.{statement}
 use Rattle.line.proofs.read_three.Tie as tie
 
-pub read-three-spec : {M : Type 1} → statement M
-read-three-spec =
+pub read_three_spec : {M : Type 1} → statement M
+read_three_spec =
     tie.close
     (tie.spec
     (λ c κs. search rules) (λ c. search rules) (λ c. search rules) (λ c. search no-first)

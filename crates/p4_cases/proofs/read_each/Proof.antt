@@ -21,8 +21,8 @@ next-case c = (omega arith, omega arith)
 same_case : tie.Need-loop-preserved-2 invariant-loop decreases-loop
 same_case c = (omega arith, omega arith)
 
-pub read-each-spec : {M : Type 1} → statement M
-read-each-spec =
+pub read_each_spec : {M : Type 1} → statement M
+read_each_spec =
     tie.close
     (tie.spec
     invariant-loop

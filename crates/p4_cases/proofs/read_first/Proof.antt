@@ -8,8 +8,8 @@ use Rattle.p4_cases.proofs.read_first.Tie as tie
 prefix-length : tie.Need-slice-aggregate-try-read
 prefix-length c = sym (length-take-le _ _ c.before.if1.true)
 
-pub read-first-spec : {M : Type 1} → statement M
-read-first-spec =
+pub read_first_spec : {M : Type 1} → statement M
+read_first_spec =
     tie.close
     (tie.spec
     prefix-length

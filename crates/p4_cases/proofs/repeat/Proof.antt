@@ -22,8 +22,8 @@ keeps-length c = simp length-set (omega arith)
 same_length : tie.Need-same-length invariant-loop decreases-loop
 same_length c = c.before.loop.invariant.0
 
-pub repeat-spec : {M : Type 1} → statement M
-repeat-spec =
+pub repeat_spec : {M : Type 1} → statement M
+repeat_spec =
     tie.close
     (tie.spec
     invariant-loop

@@ -13,6 +13,6 @@ digit-fits c = omega (arith, digit-range _ c.requires.1)
 sum_fits : tie.Need-overflow-add-w
 sum_fits c = omega (arith, digit-range _ c.requires.1)
 
-pub add-digit-spec : {M : Type 1} → statement M
-add-digit-spec =
+pub add_digit_spec : {M : Type 1} → statement M
+add_digit_spec =
     tie.close (tie.spec (λ c. omega arith) digit-from-48 digit-fits sum_fits (λ c. omega arith) (λ c. omega arith))

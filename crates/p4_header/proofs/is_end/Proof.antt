@@ -12,5 +12,5 @@ line-feed : tie.Need-returns-2
 unfolding is_end
 line-feed c = simp (ne_eqb _ _ c.if1.false)
 
-pub is-end-spec : {M : Type 1} → statement M
-is-end-spec = tie.close (tie.spec carriage-return line-feed)
+pub is_end_spec : {M : Type 1} → statement M
+is_end_spec = tie.close (tie.spec carriage-return line-feed)

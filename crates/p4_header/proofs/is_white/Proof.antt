@@ -17,5 +17,5 @@ line-end : tie.Need-returns-3
 unfolding is_white
 line-end c = simp (ne_eqb _ _ c.before.before.if1.false, ne_eqb _ _ c.before.if2.false) c.is-end.ensures
 
-pub is-white-spec : {M : Type 1} → statement M
-is-white-spec = tie.close (tie.spec space tab (λ c κs. search rules) line-end)
+pub is_white_spec : {M : Type 1} → statement M
+is_white_spec = tie.close (tie.spec space tab (λ c κs. search rules) line-end)

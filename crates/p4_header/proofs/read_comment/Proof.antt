@@ -20,8 +20,8 @@ closed c = search commenting-closed
 unclosed : tie.Need-returns-2 invariant-loop decreases-loop
 unclosed c = search commenting-unclosed
 
-pub read-comment-spec : {M : Type 1} → statement M
-read-comment-spec =
+pub read_comment_spec : {M : Type 1} → statement M
+read_comment_spec =
     tie.close
     (tie.spec
     invariant-loop

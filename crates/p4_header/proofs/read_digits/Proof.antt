@@ -14,8 +14,8 @@ invariant-loop src at i₀ v₀ i v = Counting src at i v
 abbrev decreases-loop : tie.decreases-loop
 decreases-loop src at i₀ v₀ i v = length src - i
 
-pub read-digits-spec : {M : Type 1} → statement M
-read-digits-spec =
+pub read_digits_spec : {M : Type 1} → statement M
+read_digits_spec =
     tie.close
     (tie.spec
     invariant-loop

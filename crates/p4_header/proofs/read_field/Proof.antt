@@ -10,8 +10,8 @@ no_digit c = search field-none
 too-low : tie.Need-returns-2
 too-low c = search field-low
 
-pub read-field-spec : {M : Type 1} → statement M
-read-field-spec =
+pub read_field_spec : {M : Type 1} → statement M
+read_field_spec =
     tie.close
     (tie.spec
     (λ c κs. search rules) (λ c κs. search rules) no_digit

@@ -7,8 +7,8 @@ use Rattle.p4_header.proofs.read_header.Tie as tie
 no-magic : tie.Need-returns
 no-magic c = search header-not
 
-pub read-header-spec : {M : Type 1} → statement M
-read-header-spec =
+pub read_header_spec : {M : Type 1} → statement M
+read_header_spec =
     tie.close
     (tie.spec
     (λ c. search rules) (λ c κs. search rules) no-magic

@@ -4,8 +4,8 @@ use Rattle.p4_header.proofs.Judgements.{sizes-first, sizes-second, sizes-good}
 use Rattle.p4_header.proofs.read_sizes.Statement.{statement}
 use Rattle.p4_header.proofs.read_sizes.Tie as tie
 
-pub read-sizes-spec : {M : Type 1} → statement M
-read-sizes-spec =
+pub read_sizes_spec : {M : Type 1} → statement M
+read_sizes_spec =
     tie.close
     (tie.spec
     (λ c κs. search rules) (λ c. search rules) (λ c. search rules) (λ c κs. search rules) (λ c. search rules)

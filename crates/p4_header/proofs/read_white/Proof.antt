@@ -7,8 +7,8 @@ use Rattle.p4_header.proofs.read_white.Tie as tie
 a-comment : tie.Need-returns-2
 a-comment c = search white-comment
 
-pub read-white-spec : {M : Type 1} → statement M
-read-white-spec =
+pub read_white_spec : {M : Type 1} → statement M
+read_white_spec =
     tie.close
     (tie.spec
     (λ c. search rules) (λ c κs. search rules) (λ c. search rules) (λ c. search white-space)

@@ -14,8 +14,8 @@ invariant-loop src at i₀ comment₀ i comment = Mixing src at i comment
 abbrev decreases-loop : tie.decreases-loop
 decreases-loop src at i₀ comment₀ i comment = length src - i
 
-pub skip-mix-spec : {M : Type 1} → statement M
-skip-mix-spec =
+pub skip_mix_spec : {M : Type 1} → statement M
+skip_mix_spec =
     tie.close
     (tie.spec
     invariant-loop

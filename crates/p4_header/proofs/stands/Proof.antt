@@ -13,8 +13,8 @@ invariant-loop word src at i₀ i = Standing word src at i
 abbrev decreases-loop : tie.decreases-loop
 decreases-loop word src at i₀ i = length word - i
 
-pub stands-spec : {M : Type 1} → statement M
-stands-spec =
+pub stands_spec : {M : Type 1} → statement M
+stands_spec =
     tie.close
     (tie.spec
     invariant-loop

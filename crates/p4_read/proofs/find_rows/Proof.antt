@@ -12,8 +12,8 @@ rows-end-fits c =
     let begin = rows_inside 0 0 header.before.before.read-header.ensures header.header2.given.1 in
     omega (arith, begin, c.slice-bytes.ensures.small)
 
-pub find-rows-spec : {M : Type 1} → statement M
-find-rows-spec =
+pub find_rows_spec : {M : Type 1} → statement M
+find_rows_spec =
     tie.close
     (tie.spec
     (λ c κs. search rules) (λ c. search rules) (λ c. search rules) (λ c. search rows-wide) (λ c. search rows-high)

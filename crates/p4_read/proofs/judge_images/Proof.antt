@@ -31,8 +31,8 @@ rows-end-fits c =
 too_many : tie.Need-returns invariant-loop decreases-loop
 too_many c = search keeping-full
 
-pub judge-images-spec : {M : Type 1} → statement M
-judge-images-spec =
+pub judge_images_spec : {M : Type 1} → statement M
+judge_images_spec =
     tie.close
     (tie.spec
     invariant-loop

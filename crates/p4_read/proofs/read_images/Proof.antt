@@ -40,8 +40,8 @@ stack-read c =
 buffer-short : tie.Need-returns-3
 buffer-short c = search stack-short
 
-pub read-images-spec : {M : Type 1} → statement M
-read-images-spec =
+pub read_images_spec : {M : Type 1} → statement M
+read_images_spec =
     tie.close
     (tie.spec
     (λ c. search rules) (λ c κs. search places-lent)

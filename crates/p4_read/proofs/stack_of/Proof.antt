@@ -13,5 +13,5 @@ returns c =
     let d = to_z_pos w32 {n = c.args.depth} (omega arith) in
     λ i. record { width = a i; height = b i; depth = d i }
 
-pub stack-of-spec : {M : Type 1} → statement M
-stack-of-spec = tie.close (tie.spec (λ c. search rules) (λ c. search rules) (λ c. search rules) returns)
+pub stack_of_spec : {M : Type 1} → statement M
+stack_of_spec = tie.close (tie.spec (λ c. search rules) (λ c. search rules) (λ c. search rules) returns)

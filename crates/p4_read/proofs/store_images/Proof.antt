@@ -37,8 +37,8 @@ slice-stored c =
     let s = k.before.before.before.before in
     storing-next l.before.loop.invariant s.requires (omega arith) k.slice-bytes.ensures r.copy-rows.auto.1.1.0 r.copy-rows.ensures
 
-pub store-images-spec : {M : Type 1} → statement M
-store-images-spec =
+pub store_images_spec : {M : Type 1} → statement M
+store_images_spec =
     tie.close
     (tie.spec
     invariant-loop

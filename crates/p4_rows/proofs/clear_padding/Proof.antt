@@ -35,8 +35,8 @@ next-row-fits c = let r = row_inside c.before.before in omega arith
 row-cleared : tie.Need-loop-preserved invariant-loop decreases-loop
 row-cleared c = search clearing-next
 
-pub clear-padding-spec : {M : Type 1} → statement M
-clear-padding-spec =
+pub clear_padding_spec : {M : Type 1} → statement M
+clear_padding_spec =
     tie.close
     (tie.spec
     invariant-loop

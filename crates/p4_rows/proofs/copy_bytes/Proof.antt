@@ -11,8 +11,8 @@ invariant-loop src from first to count i₀ out i = Copying src from first to co
 abbrev decreases-loop : tie.decreases-loop
 decreases-loop src from first to count i₀ out i = count - i
 
-pub copy-bytes-spec : {M : Type 1} → statement M
-copy-bytes-spec =
+pub copy_bytes_spec : {M : Type 1} → statement M
+copy_bytes_spec =
     tie.close
     (tie.spec
     invariant-loop

@@ -7,8 +7,8 @@ use Rattle.p4_rows.proofs.copy_rows.Tie as tie
 whole-bytes : tie.Need-returns
 whole-bytes c = search rows_whole
 
-pub copy-rows-spec : {M : Type 1} → statement M
-copy-rows-spec =
+pub copy_rows_spec : {M : Type 1} → statement M
+copy_rows_spec =
     tie.close
     (tie.spec
     (λ c κs. search rules) (λ c κs. search rules) (λ c. search rules) whole-bytes

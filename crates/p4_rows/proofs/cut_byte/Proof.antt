@@ -8,8 +8,8 @@ use Rattle.p4_rows.proofs.cut_byte.Tie as tie
 shifted_back : tie.Need-returns
 shifted_back c = search (shifts, arith)
 
-pub cut-byte-spec : {M : Type 1} → statement M
-cut-byte-spec =
+pub cut_byte_spec : {M : Type 1} → statement M
+cut_byte_spec =
     tie.close
     (tie.spec
     (λ c. search rules) (λ c. search rules) (λ c. search rules) (λ c. search rules) shifted_back)

@@ -15,8 +15,8 @@ decreases-loop bytes i₀ t4 i = length bytes - i
 byte_fits : tie.Need-overflow-cast-show-number invariant-loop decreases-loop
 byte_fits c = omega (arith, c.shared-slice-known2.given c.before.before.before.before.loop.i)
 
-pub show-bytes-spec : {M : Type 1} → statement M
-show-bytes-spec =
+pub show_bytes_spec : {M : Type 1} → statement M
+show_bytes_spec =
     tie.close
     (tie.spec
     invariant-loop

@@ -22,8 +22,8 @@ prefix-inside c = within c.before
 prefix-length : tie.Need-slice-aggregate-write-all
 prefix-length c = sym (length-take-le _ _ (within c.before.before))
 
-pub show-number-spec : {M : Type 1} → statement M
-show-number-spec =
+pub show_number_spec : {M : Type 1} → statement M
+show_number_spec =
     tie.close
     (tie.spec
     (λ c. search rules) ten-are-enough prefix-inside prefix-length

@@ -14,8 +14,8 @@ five-writes-are-one c =
     header-put a.before.before.before.before.requires a.put.ensures b.put-number.ensures s.put2.ensures
     d.put-number2.ensures e.put3.ensures
 
-pub put-header-spec : {M : Type 1} → statement M
-put-header-spec =
+pub put_header_spec : {M : Type 1} → statement M
+put_header_spec =
     tie.close
     (tie.spec
     (λ c. search rules) (λ c. search rules) (λ c. search rules) (λ c κs. search room-magic) (λ c κs. search room-width)

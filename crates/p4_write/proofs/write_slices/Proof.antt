@@ -56,8 +56,8 @@ slice_written c =
     p.put-header.ensures z.slice-bytes.ensures r.copy-rows.ensures
     r.copy-rows.auto.1.1.0 p.put-header.auto.0
 
-pub write-slices-spec : {M : Type 1} → statement M
-write-slices-spec =
+pub write_slices_spec : {M : Type 1} → statement M
+write_slices_spec =
     tie.close
     (tie.spec
     invariant-loop

@@ -19,8 +19,8 @@ slices-have-room c κs =
     slices-room z.before.before.before.requires z.slice-bytes.ensures f.before.figures.ensures
     f.figures2.ensures c.before.if1.false
 
-pub write-stack-spec : {M : Type 1} → statement M
-write-stack-spec =
+pub write_stack_spec : {M : Type 1} → statement M
+write_stack_spec =
     tie.close
     (tie.spec
     (λ c κs. search slice-sides)

@@ -15,5 +15,5 @@ returns c =
           ∙ ap flat_check (rw (at.point.ensures, at.before.stack_of.ensures, to_z-of_z own.width, to_z-of_z own.height, to_z-of_z own.depth, to_z-of_z own.px, to_z-of_z own.py, to_z-of_z own.pz, to_z-of_z own.frame, to_z-of_z own.reach) at c.before.check-stack.ensures.is);
     }
 
-pub ulgenzhir-check-stack-spec : {M : Type 1} → statement M
-ulgenzhir-check-stack-spec = tie.close (tie.spec (λ c κs. search rules) (λ c κs. search rules) (λ c κs. search rules) (λ c κs. search rules) returns)
+pub ulgenzhir_check_stack_spec : {M : Type 1} → statement M
+ulgenzhir_check_stack_spec = tie.close (tie.spec (λ c κs. search rules) (λ c κs. search rules) (λ c κs. search rules) (λ c κs. search rules) returns)

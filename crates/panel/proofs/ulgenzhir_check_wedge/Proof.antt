@@ -15,5 +15,5 @@ returns c =
           ∙ ap flat_check (rw (at.point.ensures, at.before.wedge-of.ensures, to_z-of_z own.a, to_z-of_z own.b, to_z-of_z own.c, to_z-of_z own.h, to_z-of_z own.px, to_z-of_z own.py, to_z-of_z own.pz, to_z-of_z own.frame, to_z-of_z own.reach) at c.before.check-wedge.ensures.is);
     }
 
-pub ulgenzhir-check-wedge-spec : {M : Type 1} → statement M
-ulgenzhir-check-wedge-spec = tie.close (tie.spec (λ c κs. search rules) (λ c κs. search rules) (λ c κs. search rules) (λ c κs. search rules) returns)
+pub ulgenzhir_check_wedge_spec : {M : Type 1} → statement M
+ulgenzhir_check_wedge_spec = tie.close (tie.spec (λ c κs. search rules) (λ c κs. search rules) (λ c κs. search rules) (λ c κs. search rules) returns)

@@ -11,5 +11,5 @@ returns c =
     let own = c.before.before.ranges in
     record { is = c.flatten-display.ensures ∙ ap flat_display (rw (to_z-of_z own.nx, to_z-of_z own.ny, to_z-of_z own.nz) at c.before.display-normal.ensures.is) }
 
-pub ulgenzhir-display-spec : {M : Type 1} → statement M
-ulgenzhir-display-spec = tie.close (tie.spec (λ c κs. search rules) (λ c κs. search rules) returns)
+pub ulgenzhir_display_spec : {M : Type 1} → statement M
+ulgenzhir_display_spec = tie.close (tie.spec (λ c κs. search rules) (λ c κs. search rules) returns)

@@ -15,5 +15,5 @@ returns c =
           ∙ ap flat_firm (rw (at.handed-pick.ensures, at.before.stack_of.ensures, to_z-of_z own.width, to_z-of_z own.height, to_z-of_z own.depth, to_z-of_z own.frame, to_z-of_z own.reach) at c.before.firm-stack.ensures.is);
     }
 
-pub ulgenzhir-firm-stack-spec : {M : Type 1} → statement M
-ulgenzhir-firm-stack-spec = tie.close (tie.spec (λ c κs. search rules) (λ c κs. search rules) (λ c κs. search rules) (λ c κs. search rules) returns)
+pub ulgenzhir_firm_stack_spec : {M : Type 1} → statement M
+ulgenzhir_firm_stack_spec = tie.close (tie.spec (λ c κs. search rules) (λ c κs. search rules) (λ c κs. search rules) (λ c κs. search rules) returns)

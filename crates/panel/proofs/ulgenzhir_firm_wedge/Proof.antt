@@ -15,5 +15,5 @@ returns c =
           ∙ ap flat_firm (rw (at.handed-pick.ensures, at.before.wedge-of.ensures, to_z-of_z own.a, to_z-of_z own.b, to_z-of_z own.c, to_z-of_z own.h, to_z-of_z own.frame, to_z-of_z own.reach) at c.before.firm-wedge.ensures.is);
     }
 
-pub ulgenzhir-firm-wedge-spec : {M : Type 1} → statement M
-ulgenzhir-firm-wedge-spec = tie.close (tie.spec (λ c κs. search rules) (λ c κs. search rules) (λ c κs. search rules) (λ c κs. search rules) returns)
+pub ulgenzhir_firm_wedge_spec : {M : Type 1} → statement M
+ulgenzhir_firm_wedge_spec = tie.close (tie.spec (λ c κs. search rules) (λ c κs. search rules) (λ c κs. search rules) (λ c κs. search rules) returns)

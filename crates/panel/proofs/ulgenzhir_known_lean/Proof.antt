@@ -14,5 +14,5 @@ returns c =
     let promise = rw at.handed-pick.ensures at c.before.known-lean.ensures.is in
     record { is = c.flatten-lean.ensures ∙ ap flat_lean (promise ∙ ap (lean_of (handed_pick start.args.pick)) (to_z-of_z start.ranges.reach)) }
 
-pub ulgenzhir-known-lean-spec : {M : Type 1} → statement M
-ulgenzhir-known-lean-spec = tie.close (tie.spec (λ c κs. search rules) (λ c κs. search rules) (λ c κs. search rules) returns)
+pub ulgenzhir_known_lean_spec : {M : Type 1} → statement M
+ulgenzhir_known_lean_spec = tie.close (tie.spec (λ c κs. search rules) (λ c κs. search rules) (λ c κs. search rules) returns)

@@ -10,6 +10,6 @@ returns c =
     let promise = c.before.before.before.read.ensures in
     record { answers = c.flatten-reading.ensures ∙ ap flat_reading promise.answers; leaves = promise.leaves }
 
-pub ulgenzhir-read-p4-spec : {M : Type 1} → statement M
-ulgenzhir-read-p4-spec =
+pub ulgenzhir_read_p4_spec : {M : Type 1} → statement M
+ulgenzhir_read_p4_spec =
     tie.close (tie.spec (λ c κs. search rules) (λ c κs. search rules) (λ c. search rules) returns)

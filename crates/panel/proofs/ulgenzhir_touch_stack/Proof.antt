@@ -15,5 +15,5 @@ returns c =
           ∙ ap flat_touch (rw (at.point.ensures, at.before.stack_of.ensures, to_z-of_z own.width, to_z-of_z own.height, to_z-of_z own.depth, to_z-of_z own.px, to_z-of_z own.py, to_z-of_z own.pz, to_z-of_z own.frame, to_z-of_z own.reach) at c.before.touch-stack.ensures.is);
     }
 
-pub ulgenzhir-touch-stack-spec : {M : Type 1} → statement M
-ulgenzhir-touch-stack-spec = tie.close (tie.spec (λ c κs. search rules) (λ c κs. search rules) (λ c κs. search rules) (λ c κs. search rules) returns)
+pub ulgenzhir_touch_stack_spec : {M : Type 1} → statement M
+ulgenzhir_touch_stack_spec = tie.close (tie.spec (λ c κs. search rules) (λ c κs. search rules) (λ c κs. search rules) (λ c κs. search rules) returns)

@@ -15,5 +15,5 @@ returns c =
           ∙ ap flat_pick (rw (at.Ready-of.ensures, at.before.wedge-of.ensures, to_z-of_z own.a, to_z-of_z own.b, to_z-of_z own.c, to_z-of_z own.h, to_z-of_z own.frame, to_z-of_z own.reach) at c.before.walk-wedge.ensures.is);
     }
 
-pub ulgenzhir-walk-wedge-spec : {M : Type 1} → statement M
-ulgenzhir-walk-wedge-spec = tie.close (tie.spec (λ c κs. search rules) (λ c κs. search rules) (λ c κs. search rules) (λ c κs. search rules) returns)
+pub ulgenzhir_walk_wedge_spec : {M : Type 1} → statement M
+ulgenzhir_walk_wedge_spec = tie.close (tie.spec (λ c κs. search rules) (λ c κs. search rules) (λ c κs. search rules) (λ c κs. search rules) returns)

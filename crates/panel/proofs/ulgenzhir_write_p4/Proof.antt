@@ -13,6 +13,6 @@ returns c =
     let promise = rw (made.stack_of.ensures, to_z-of_z own.width, to_z-of_z own.height, to_z-of_z own.depth) at c.before.before.before.write.ensures in
     record { answers = c.flatten-writing.ensures ∙ ap flat_writing promise.answers; leaves = promise.leaves }
 
-pub ulgenzhir-write-p4-spec : {M : Type 1} → statement M
-ulgenzhir-write-p4-spec =
+pub ulgenzhir_write_p4_spec : {M : Type 1} → statement M
+ulgenzhir_write_p4_spec =
     tie.close (tie.spec (λ c κs. search rules) (λ c κs. search rules) (λ c κs. search rules) (λ c. search rules) returns)

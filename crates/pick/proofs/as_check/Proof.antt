@@ -17,8 +17,8 @@ never-accepted c =
     let ended = answer.before.before.before in
     absurd (rw (ended.outcome2.given.1 ∙ ap Ended answer.answer2.given.1) at ended.before.before.requires)
 
-pub as-check-spec : {M : Type 1} → statement M
-as-check-spec =
+pub as_check_spec : {M : Type 1} → statement M
+as_check_spec =
     tie.close
     (tie.spec
     (λ c. search rules) (λ c. search rules) (λ c. search rules) (λ c. search rules) (λ c κs. search rules)

@@ -6,8 +6,8 @@ use Rattle.pick.proofs.as_pick.Tie as tie
 never-ready : tie.Need-returns-2
 never-ready c = let ready = c.before.before.before in absurd (rw ready.outcome2.given.1 at ready.before.before.requires)
 
-pub as-pick-spec : {M : Type 1} → statement M
-as-pick-spec =
+pub as_pick_spec : {M : Type 1} → statement M
+as_pick_spec =
     tie.close
     (tie.spec
     (λ c. search rules) (λ c. search rules) (λ c κs. search rules)

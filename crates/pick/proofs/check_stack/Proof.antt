@@ -12,8 +12,8 @@ as-its-solid c =
     let s = c.before.before.before in
     record { is = check-ends-in (made-read s.ranges.frame s.ranges.reach c.before.make-call.ensures) c.as-check.result c.as-check.ensures }
 
-pub check-stack-spec : {M : Type 1} → statement M
-check-stack-spec =
+pub check_stack_spec : {M : Type 1} → statement M
+check_stack_spec =
     tie.close
     (tie.spec
     (λ c κs. search rules)

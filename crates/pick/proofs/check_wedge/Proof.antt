@@ -12,8 +12,8 @@ as-its-solid c =
     let s = c.before.before.before in
     record { is = check-ends-in (made-read s.ranges.frame s.ranges.reach c.before.make-call.ensures) c.as-check.result c.as-check.ensures }
 
-pub check-wedge-spec : {M : Type 1} → statement M
-check-wedge-spec =
+pub check_wedge_spec : {M : Type 1} → statement M
+check_wedge_spec =
     tie.close
     (tie.spec
     (λ c. search rules) (λ c κs. search rules)

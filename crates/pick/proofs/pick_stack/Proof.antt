@@ -14,8 +14,8 @@ as-its-solid c =
     let s = c.before.before.before in
     record { is = ends-in (made-read s.ranges.frame s.ranges.reach c.before.make-call.ensures).is c.as-pick.ensures }
 
-pub pick-stack-spec : {M : Type 1} → statement M
-pick-stack-spec =
+pub pick_stack_spec : {M : Type 1} → statement M
+pick_stack_spec =
     tie.close
     (tie.spec
     (λ c κs. search rules)

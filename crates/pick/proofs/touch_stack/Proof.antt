@@ -16,8 +16,8 @@ as-its-solid c =
     let s = called.before.before in
     record { is = c.mark.ensures ∙ ap marked (ends-in (made-read s.ranges.frame s.ranges.reach called.make-call.ensures).is c.before.as-pick.ensures) }
 
-pub touch-stack-spec : {M : Type 1} → statement M
-touch-stack-spec =
+pub touch_stack_spec : {M : Type 1} → statement M
+touch_stack_spec =
     tie.close
     (tie.spec
     (λ c κs. search rules)

@@ -12,8 +12,8 @@ as-its-solid c =
     let s = c.before.before.before in
     record { is = ends-in (made-read s.ranges.frame s.ranges.reach c.before.make-call.ensures).is c.as-pick.ensures }
 
-pub walk-stack-spec : {M : Type 1} → statement M
-walk-stack-spec =
+pub walk_stack_spec : {M : Type 1} → statement M
+walk_stack_spec =
     tie.close
     (tie.spec
     (λ c κs. search rules)

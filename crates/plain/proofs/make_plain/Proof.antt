@@ -21,8 +21,8 @@ counted {after = after} {n = n} W e = sym (length-take-le n after (within W e))
 
 ruleset written = (within, counted)
 
-pub make-plain-spec : {M : Type 1} → statement M
-make-plain-spec =
+pub make_plain_spec : {M : Type 1} → statement M
+make_plain_spec =
     tie.close
     (tie.spec
     (λ c κs. search rules) (λ c. search rules) (λ c κs. search rules) (λ c. search rules) (λ c κs. search rules)

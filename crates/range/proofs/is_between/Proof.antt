@@ -9,5 +9,5 @@ returns : tie.Need-returns
 unfolding between
 returns c = value (search judged depth 30 fits 5000) tt
 
-pub is-between-spec : {M : Type 1} → statement M
-is-between-spec = tie.close (tie.spec returns)
+pub is_between_spec : {M : Type 1} → statement M
+is_between_spec = tie.close (tie.spec returns)

@@ -11,8 +11,8 @@ invariant-loop reach power₀ count₀ power count = Counting reach power count
 abbrev decreases-loop : tie.decreases-loop
 decreases-loop reach power₀ count₀ power count = 512 - power
 
-pub count-powers-spec : {M : Type 1} → statement M
-count-powers-spec =
+pub count_powers_spec : {M : Type 1} → statement M
+count_powers_spec =
     tie.close
     (tie.spec
     invariant-loop

@@ -17,5 +17,5 @@ returns : tie.Need-returns
 unfolding is_ready all_level
 returns c = rw c.before.before.before.before.count-powers.ensures
 
-pub is-ready-spec : {M : Type 1} → statement M
-is-ready-spec = tie.close (tie.spec (λ c κs. search rules) product-fits most-fits returns)
+pub is_ready_spec : {M : Type 1} → statement M
+is_ready_spec = tie.close (tie.spec (λ c κs. search rules) product-fits most-fits returns)

@@ -28,8 +28,8 @@ ask-way-requires c κs =
 loop-again : tie.Need-loop-preserved invariant-loop decreases-loop
 loop-again c = ⊎_elim (λ w. search asking) (λ w. search asking) c.if1.branch
 
-pub ask-round-spec : {M : Type 1} → statement M
-ask-round-spec =
+pub ask_round_spec : {M : Type 1} → statement M
+ask_round_spec =
     tie.close
     (tie.spec
     invariant-loop

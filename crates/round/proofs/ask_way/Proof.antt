@@ -21,8 +21,8 @@ ask-falls-requires c κs =
 settle-requires : tie.Need-settle-requires
 settle-requires c κs = both-fit (search (named, small)) (search (named, small)) tt
 
-pub ask-way-spec : {M : Type 1} → statement M
-ask-way-spec =
+pub ask_way_spec : {M : Type 1} → statement M
+ask_way_spec =
     tie.close
     (tie.spec
     (λ c κs. search rules) (λ c κs. search rules) (λ c κs. search index_below) (λ c κs. search index_below) vectors-fit

@@ -4,5 +4,5 @@ use Rattle.round.proofs.Numbers.{seconds}
 use Rattle.round.proofs.second_of.Statement.{statement}
 use Rattle.round.proofs.second_of.Tie as tie
 
-pub second-of-spec : {M : Type 1} → statement M
-second-of-spec = tie.close (tie.spec (λ c. search rules) (λ c. search seconds) (λ c. search seconds))
+pub second_of_spec : {M : Type 1} → statement M
+second_of_spec = tie.close (tie.spec (λ c. search rules) (λ c. search seconds) (λ c. search seconds))

@@ -4,8 +4,8 @@ use Rattle.round.proofs.Rounds.{settling}
 use Rattle.round.proofs.settle.Statement.{statement}
 use Rattle.round.proofs.settle.Tie as tie
 
-pub settle-spec : {M : Type 1} → statement M
-settle-spec =
+pub settle_spec : {M : Type 1} → statement M
+settle_spec =
     tie.close
     (tie.spec
     (λ c. search rules) (λ c κs. search rules) (λ c κs. search rules) (λ c. search rules) (λ c. search rules)

@@ -4,8 +4,8 @@ use Rattle.round.proofs.Numbers.{masks}
 use Rattle.round.proofs.skipped.Statement.{statement}
 use Rattle.round.proofs.skipped.Tie as tie
 
-pub skipped-spec : {M : Type 1} → statement M
-skipped-spec =
+pub skipped_spec : {M : Type 1} → statement M
+skipped_spec =
     tie.close
     (tie.spec
     (λ c. search rules) (λ c. search rules) (λ c. search rules) (λ c. search masks) (λ c. search masks)

@@ -11,8 +11,8 @@ vectors-fit c κs = both-fit (search named) (search named) tt
 first-replaced : tie.Need-returns
 first-replaced c = search step-made
 
-pub step-by-spec : {M : Type 1} → statement M
-step-by-spec =
+pub step_by_spec : {M : Type 1} → statement M
+step_by_spec =
     tie.close
     (tie.spec
     (λ c κs. search rules) (λ c κs. search rules) (λ c κs. search index_below) (λ c κs. search index_below)

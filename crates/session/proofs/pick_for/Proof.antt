@@ -4,8 +4,8 @@ use Rattle.session.proofs.Replies.{answers}
 use Rattle.session.proofs.pick_for.Statement.{statement}
 use Rattle.session.proofs.pick_for.Tie as tie
 
-pub pick-for-spec : {M : Type 1} → statement M
-pick-for-spec =
+pub pick_for_spec : {M : Type 1} → statement M
+pick_for_spec =
     tie.close
     (tie.spec
     (λ c κs. search rules) (λ c. search answers))

@@ -15,8 +15,8 @@ decreases-loop out₀ text from₀ at₀ end₀ out from at end = length text - 
 no-last-line : tie.Need-returns invariant-loop decreases-loop
 no-last-line c = search ends-empty
 
-pub put-replies-spec : {M : Type 1} → statement M
-put-replies-spec =
+pub put_replies_spec : {M : Type 1} → statement M
+put_replies_spec =
     tie.close
     (tie.spec
     invariant-loop

@@ -4,8 +4,8 @@ use Rattle.session.proofs.Replies.{answer-space, replies-answer, replies-other}
 use Rattle.session.proofs.put_reply.Statement.{statement}
 use Rattle.session.proofs.put_reply.Tie as tie
 
-pub put-reply-spec : {M : Type 1} → statement M
-put-reply-spec =
+pub put_reply_spec : {M : Type 1} → statement M
+put_reply_spec =
     tie.close
     (tie.spec
     (λ c κs. search rules) (λ c. search rules) (λ c κs. search rules) (λ c κs. search answer-space)

@@ -16,8 +16,8 @@ itself-unsigned c = positive-fits c.before.ranges.z c.if1.false
 itself-size : tie.Need-returns-2
 itself-size c = positive-size c.before.ranges.z
 
-pub size-of-spec : {M : Type 1} → statement M
-size-of-spec =
+pub size_of_spec : {M : Type 1} → statement M
+size_of_spec =
     tie.close
     (tie.spec
     (λ c. fits (search (machine, typed) depth 30 fits 5000) tt)

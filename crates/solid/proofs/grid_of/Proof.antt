@@ -39,5 +39,5 @@ stack c =
     let s = sides d.before.before.before.requires d.s2.given.1 in
     of-stack d.s2.given.1 (side-kept s.wide) (side-kept s.high) (side-kept s.deep) r.ranks-of.ensures
 
-pub grid-of-spec : {M : Type 1} → statement M
-grid-of-spec = tie.close (tie.spec (λ c. search rules) (λ c. search rules) sides-known width-casts height-casts depth-casts wedge stack)
+pub grid_of_spec : {M : Type 1} → statement M
+grid_of_spec = tie.close (tie.spec (λ c. search rules) (λ c. search rules) sides-known width-casts height-casts depth-casts wedge stack)

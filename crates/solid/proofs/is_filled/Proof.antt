@@ -23,5 +23,5 @@ stack c =
     let s = c.before.before.before.before in
     rw c.before.enum_told.given.1 (rw (to_z-of_z s.ranges.rank) at c.is-bit.ensures)
 
-pub is-filled-spec : {M : Type 1} → statement M
-is-filled-spec = tie.close (tie.spec (λ c. search rules) (λ c. search rules) bit-casts bit-is-held wedge stack)
+pub is_filled_spec : {M : Type 1} → statement M
+is_filled_spec = tie.close (tie.spec (λ c. search rules) (λ c. search rules) bit-casts bit-is-held wedge stack)

@@ -10,5 +10,5 @@ returns : tie.Need-returns
 unfolding in_box
 returns c = value (search judged depth 30 fits 5000) tt
 
-pub is-inside-spec : {M : Type 1} → statement M
-is-inside-spec = tie.close (tie.spec (λ c κs. search rules) (λ c κs. search rules) (λ c κs. search rules) returns)
+pub is_inside_spec : {M : Type 1} → statement M
+is_inside_spec = tie.close (tie.spec (λ c κs. search rules) (λ c κs. search rules) (λ c κs. search rules) returns)

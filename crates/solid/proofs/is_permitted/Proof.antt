@@ -12,8 +12,8 @@ use Rattle.solid.proofs.is_permitted.Tie as tie
 by-solid : (bytes : List ℕ) {s t : Solid} {r : Bool} → s ≡ t → r ≡ permitted t bytes → r ≡ permitted s bytes
 by-solid bytes e h = rw e h
 
-pub is-permitted-spec : {M : Type 1} → statement M
-is-permitted-spec =
+pub is_permitted_spec : {M : Type 1} → statement M
+is_permitted_spec =
     tie.close
     (tie.spec
     (λ c. search rules) (λ c κs. search rules) (λ c. search rules) (λ c κs. search rules)

@@ -10,5 +10,5 @@ returns : tie.Need-returns
 unfolding permitted_wedge
 returns c = value (search judged depth 30 fits 5000) tt
 
-pub is-permitted-wedge-spec : {M : Type 1} → statement M
-is-permitted-wedge-spec = tie.close (tie.spec (λ c κs. search rules) (λ c κs. search rules) (λ c κs. search rules) (λ c κs. search rules) returns)
+pub is_permitted_wedge_spec : {M : Type 1} → statement M
+is_permitted_wedge_spec = tie.close (tie.spec (λ c κs. search rules) (λ c κs. search rules) (λ c κs. search rules) (λ c κs. search rules) returns)

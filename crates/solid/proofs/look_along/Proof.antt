@@ -42,5 +42,5 @@ outside c =
     let i = in-box s.args.q (axis_at s.args.axis) s.requires.0 s.requires.1 s.requires.2 s.ranges.z c.before.is-in-side.ensures in
     looked-outside _ s.requires.0 refl i c.if1.false
 
-pub look-along-spec : {M : Type 1} → statement M
-look-along-spec = tie.close (tie.spec (λ c κs. search rules) rank-is-held inside outside)
+pub look_along_spec : {M : Type 1} → statement M
+look_along_spec = tie.close (tie.spec (λ c κs. search rules) rank-is-held inside outside)

@@ -30,5 +30,5 @@ inside c =
 outside : tie.Need-returns-2
 outside c = search looked-outside
 
-pub look-at-spec : {M : Type 1} → statement M
-look-at-spec = tie.close (tie.spec (λ c κs. search rules) rank-fits rank-is-held inside outside)
+pub look_at_spec : {M : Type 1} → statement M
+look_at_spec = tie.close (tie.spec (λ c κs. search rules) rank-fits rank-is-held inside outside)

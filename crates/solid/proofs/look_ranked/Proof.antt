@@ -16,5 +16,5 @@ inside c =
     let s = c.before.before.before.before in
     looked-inside s.args.p s.requires.0 s.requires.1 c.before.before.is-inside.ensures c.before.if1.true (to_z-of_z s.ranges.rank ∙ s.requires.2) c.see.ensures
 
-pub look-ranked-spec : {M : Type 1} → statement M
-look-ranked-spec = tie.close (tie.spec (λ c κs. search rules) rank-is-held inside (λ c. search looked-outside))
+pub look_ranked_spec : {M : Type 1} → statement M
+look_ranked_spec = tie.close (tie.spec (λ c κs. search rules) rank-is-held inside (λ c. search looked-outside))

@@ -8,8 +8,8 @@ returns : tie.Need-returns
 unfolding dot
 returns c = value (search machine depth 30 fits 5000) tt
 
-pub rank-of-spec : {M : Type 1} → statement M
-rank-of-spec =
+pub rank_of_spec : {M : Type 1} → statement M
+rank_of_spec =
     tie.close
     (tie.spec
     (λ c. fits (search machine depth 30 fits 5000) tt) (λ c. fits (search machine depth 30 fits 5000) tt)

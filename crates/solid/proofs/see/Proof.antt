@@ -18,5 +18,5 @@ use Rattle.solid.proofs.see.Tie as tie
 by-test : (s : Solid) (bytes : List ℕ) {z : ℤ} {f t : Bool} {l : Look} → SFits w32 z → f ≡ filled_at s bytes (to_z w32 (of_z w32 z)) → f ≡ t → l ≡ seen_as true t → l ≡ seen_as true (filled_at s bytes z)
 by-test s bytes b e u a = a ∙ ap (seen_as true) (sym u ∙ e ∙ ap (filled_at s bytes) (to_z-of_z b))
 
-pub see-spec : {M : Type 1} → statement M
-see-spec = tie.close (tie.spec (λ c κs. search rules) (λ c. search by-test) (λ c. search by-test))
+pub see_spec : {M : Type 1} → statement M
+see_spec = tie.close (tie.spec (λ c κs. search rules) (λ c. search by-test) (λ c. search by-test))

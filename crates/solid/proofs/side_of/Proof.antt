@@ -15,5 +15,5 @@ along-y c = ap (side_at c.before.before.args.g) (second c.if2.true)
 along-z : tie.Need-returns-3
 along-z c = let s = c.before.before in ap (side_at s.args.g) (third s.requires c.before.if1.false c.if2.false)
 
-pub side-of-spec : {M : Type 1} → statement M
-side-of-spec = tie.close (tie.spec along-x along-y along-z)
+pub side_of_spec : {M : Type 1} → statement M
+side_of_spec = tie.close (tie.spec along-x along-y along-z)

@@ -10,8 +10,8 @@ returns : tie.Need-returns
 unfolding cross
 returns c = vector-eq (value (search (machine, known-stands) depth 30 fits 5000) tt) (value (search (machine, known-stands) depth 30 fits 5000) tt) (value (search (machine, known-stands) depth 30 fits 5000) tt)
 
-pub cross-spec : {M : Type 1} → statement M
-cross-spec =
+pub cross_spec : {M : Type 1} → statement M
+cross_spec =
     tie.close
     (tie.spec
     (λ c κs. search rules) (λ c κs. search rules) (λ c κs. search rules) returns)

@@ -8,8 +8,8 @@ returns : tie.Need-returns
 unfolding dot
 returns c = value (search machine depth 30 fits 5000) tt
 
-pub dot-spec : {M : Type 1} → statement M
-dot-spec =
+pub dot_spec : {M : Type 1} → statement M
+dot_spec =
     tie.close
     (tie.spec
     (λ c. fits (search machine depth 30 fits 5000) tt) (λ c. fits (search machine depth 30 fits 5000) tt)

@@ -9,8 +9,8 @@ returns : tie.Need-returns
 unfolding lay
 returns c = vector-eq (value (search machine depth 30 fits 5000) tt) (value (search machine depth 30 fits 5000) tt) (value (search machine depth 30 fits 5000) tt)
 
-pub lay-spec : {M : Type 1} → statement M
-lay-spec =
+pub lay_spec : {M : Type 1} → statement M
+lay_spec =
     tie.close
     (tie.spec
     (λ c. fits (search machine depth 30 fits 5000) tt) (λ c. fits (search machine depth 30 fits 5000) tt)

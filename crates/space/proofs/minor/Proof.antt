@@ -3,8 +3,8 @@ use Rattle.integers.specs.Machine.{machine, fits, value}
 use Rattle.space.proofs.minor.Statement.{statement}
 use Rattle.space.proofs.minor.Tie as tie
 
-pub minor-spec : {M : Type 1} → statement M
-minor-spec =
+pub minor_spec : {M : Type 1} → statement M
+minor_spec =
     tie.close
     (tie.spec
     (λ c. fits (search machine depth 30 fits 5000) tt) (λ c. fits (search machine depth 30 fits 5000) tt)

@@ -9,8 +9,8 @@ returns : tie.Need-returns
 unfolding minus
 returns c = vector-eq (value (search machine depth 30 fits 5000) tt) (value (search machine depth 30 fits 5000) tt) (value (search machine depth 30 fits 5000) tt)
 
-pub negate-spec : {M : Type 1} → statement M
-negate-spec =
+pub negate_spec : {M : Type 1} → statement M
+negate_spec =
     tie.close
     (tie.spec
     (λ c. fits (search machine depth 30 fits 5000) tt) (λ c. fits (search machine depth 30 fits 5000) tt)

@@ -35,8 +35,8 @@ returns : tie.Need-returns
 unfolding size
 returns c = search sum
 
-pub size-spec : {M : Type 1} → statement M
-size-spec =
+pub size_spec : {M : Type 1} → statement M
+size_spec =
     tie.close
     (tie.spec
     (λ c κs. search rules) (λ c κs. search rules) (λ c κs. search rules) (λ c. search two-fit) (λ c. search three-fit)

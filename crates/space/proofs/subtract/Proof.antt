@@ -9,8 +9,8 @@ returns : tie.Need-returns
 unfolding ◌⊖◌
 returns c = vector-eq (value (search machine depth 30 fits 5000) tt) (value (search machine depth 30 fits 5000) tt) (value (search machine depth 30 fits 5000) tt)
 
-pub subtract-spec : {M : Type 1} → statement M
-subtract-spec =
+pub subtract_spec : {M : Type 1} → statement M
+subtract_spec =
     tie.close
     (tie.spec
     (λ c. fits (search machine depth 30 fits 5000) tt) (λ c. fits (search machine depth 30 fits 5000) tt)

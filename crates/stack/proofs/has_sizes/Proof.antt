@@ -10,5 +10,5 @@ returns : tie.Need-returns
 unfolding sizes_permitted
 returns c = value (search judged depth 30 fits 5000) tt
 
-pub has-sizes-spec : {M : Type 1} → statement M
-has-sizes-spec = tie.close (tie.spec (λ c κs. search rules) (λ c κs. search rules) (λ c κs. search rules) returns)
+pub has_sizes_spec : {M : Type 1} → statement M
+has_sizes_spec = tie.close (tie.spec (λ c κs. search rules) (λ c κs. search rules) (λ c κs. search rules) returns)

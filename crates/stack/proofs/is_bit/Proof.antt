@@ -9,5 +9,5 @@ returns : tie.Need-returns
 unfolding bit_at
 returns c = refl
 
-pub is-bit-spec : {M : Type 1} → statement M
-is-bit-spec = tie.close (tie.spec (λ c. search rules) (λ c. search rules) (λ c. search rules) (λ c. search rules) returns)
+pub is_bit_spec : {M : Type 1} → statement M
+is_bit_spec = tie.close (tie.spec (λ c. search rules) (λ c. search rules) (λ c. search rules) (λ c. search rules) returns)

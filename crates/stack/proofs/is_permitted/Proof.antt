@@ -15,8 +15,8 @@ enough-bytes c =
 sizes-refused : tie.Need-returns-2
 sizes-refused c = rw (permitted-stack, sym c.before.has-sizes.ensures ∙ c.if1.false)
 
-pub is-permitted-spec : {M : Type 1} → statement M
-is-permitted-spec =
+pub is_permitted_spec : {M : Type 1} → statement M
+is_permitted_spec =
     tie.close
     (tie.spec
     (λ c κs. search rules) sides-permitted enough-bytes sizes-refused)

@@ -5,8 +5,8 @@ use Rattle.stack.proofs.Sizes.{slice-sides, ranks-are}
 use Rattle.stack.proofs.ranks_of.Statement.{statement}
 use Rattle.stack.proofs.ranks_of.Tie as tie
 
-pub ranks-of-spec : {M : Type 1} → statement M
-ranks-of-spec =
+pub ranks_of_spec : {M : Type 1} → statement M
+ranks_of_spec =
     tie.close
     (tie.spec
     (λ c. search side-casts) (λ c. search side-casts)

@@ -4,5 +4,5 @@ use Rattle.stack.proofs.Sizes.{row-bytes}
 use Rattle.stack.proofs.row_bytes.Statement.{statement}
 use Rattle.stack.proofs.row_bytes.Tie as tie
 
-pub row-bytes-spec : {M : Type 1} → statement M
-row-bytes-spec = tie.close (tie.spec (λ c. search rules) (λ c. search row-bytes))
+pub row_bytes_spec : {M : Type 1} → statement M
+row_bytes_spec = tie.close (tie.spec (λ c. search rules) (λ c. search row-bytes))

@@ -4,5 +4,5 @@ use Rattle.stack.proofs.Sizes.{slice_fits, slice-bytes}
 use Rattle.stack.proofs.slice_bytes.Statement.{statement}
 use Rattle.stack.proofs.slice_bytes.Tie as tie
 
-pub slice-bytes-spec : {M : Type 1} → statement M
-slice-bytes-spec = tie.close (tie.spec (λ c κs. search rules) (λ c. search slice_fits) (λ c. search slice-bytes))
+pub slice_bytes_spec : {M : Type 1} → statement M
+slice_bytes_spec = tie.close (tie.spec (λ c κs. search rules) (λ c. search slice_fits) (λ c. search slice-bytes))

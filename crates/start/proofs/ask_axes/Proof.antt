@@ -20,8 +20,8 @@ begins c = search asking
 line-asks : tie.Need-line-of-requires invariant-loop decreases-loop
 line-asks c κs = let s = c.before.before.before in (scene-ranks s.requires.0, s.requires.0.signed, c.loop-test.true)
 
-pub ask-axes-spec : {M : Type 1} → statement M
-ask-axes-spec =
+pub ask_axes_spec : {M : Type 1} → statement M
+ask_axes_spec =
     tie.close
     (tie.spec
     invariant-loop

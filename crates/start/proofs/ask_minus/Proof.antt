@@ -20,5 +20,5 @@ asked c =
     let s = c.before.before.before in
     minus-asked (ap way_along c.before.turn.ensures ∙ way_back s.requires.1) c.ask-along.ensures
 
-pub ask-minus-spec : {M : Type 1} → statement M
-ask-minus-spec = tie.close (tie.spec line-turns opposite_asks asked)
+pub ask_minus_spec : {M : Type 1} → statement M
+ask_minus_spec = tie.close (tie.spec line-turns opposite_asks asked)

@@ -33,8 +33,8 @@ kept c = let asked = c.before.before.before in opposite-kept asked.ask-along.ens
 stopped : tie.Need-returns-3
 stopped c = let asked = c.before.before.before.before in opposite-stopped asked.ask-along.ensures (way-laid asked.before.before.requires.1) c.before.before.f3.given.1 c.refusal.ensures
 
-pub ask-opposite-spec : {M : Type 1} → statement M
-ask-opposite-spec =
+pub ask_opposite_spec : {M : Type 1} → statement M
+ask_opposite_spec =
     tie.close
     (tie.spec
     line-asks

@@ -15,8 +15,8 @@ ask-opposite-requires c κs =
 fell : tie.Need-returns
 fell c = search judging-axis
 
-pub judge-axis-spec : {M : Type 1} → statement M
-judge-axis-spec =
+pub judge_axis_spec : {M : Type 1} → statement M
+judge_axis_spec =
     tie.close
     (tie.spec
     (λ c. search rules) (λ c. search rules) ask-opposite-requires

@@ -4,8 +4,8 @@ use Rattle.start.proofs.Axes.{judged-level, judged-begun}
 use Rattle.start.proofs.judge_levels.Statement.{statement}
 use Rattle.start.proofs.judge_levels.Tie as tie
 
-pub judge-levels-spec : {M : Type 1} → statement M
-judge-levels-spec =
+pub judge_levels_spec : {M : Type 1} → statement M
+judge_levels_spec =
     tie.close
     (tie.spec
     (λ c κs. search rules) (λ c. search judged-level) (λ c. search judged-begun))

@@ -4,8 +4,8 @@ use Rattle.start.proofs.Axes.{is-opposed}
 use Rattle.start.proofs.refuse_axis.Statement.{statement}
 use Rattle.start.proofs.refuse_axis.Tie as tie
 
-pub refuse-axis-spec : {M : Type 1} → statement M
-refuse-axis-spec =
+pub refuse_axis_spec : {M : Type 1} → statement M
+refuse_axis_spec =
     tie.close
     (tie.spec
     (λ c κs. search rules) (λ c κs. search rules) (λ c. search is-opposed))

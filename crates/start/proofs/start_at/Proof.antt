@@ -7,8 +7,8 @@ use Rattle.start.proofs.start_at.Tie as tie
 corners : tie.Need-returns-2
 corners c = search starting
 
-pub start-at-spec : {M : Type 1} → statement M
-start-at-spec =
+pub start_at_spec : {M : Type 1} → statement M
+start_at_spec =
     tie.close
     (tie.spec
     (λ c κs. search rules) (λ c. search rules) (λ c. search rules) (λ c κs. search corners-countable) (λ c κs. search rules)

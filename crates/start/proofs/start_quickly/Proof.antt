@@ -11,5 +11,5 @@ refused c = ap quickly (sym c.before.cleared.given.1)
 begun : tie.Need-returns-2
 begun c = ap quickly (sym c.before.cleared2.given.1)
 
-pub start-quickly-spec : {M : Type 1} → statement M
-start-quickly-spec = tie.close (tie.spec (λ c. search rules) (λ c. search rules) refused begun)
+pub start_quickly_spec : {M : Type 1} → statement M
+start_quickly_spec = tie.close (tie.spec (λ c. search rules) (λ c. search rules) refused begun)

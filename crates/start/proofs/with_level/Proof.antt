@@ -18,5 +18,5 @@ by_number v (suc zero) b h d e f = rw (d, e, f)
 by_number v (suc (suc zero)) b h d e f = rw (d, e, f)
 by_number v (suc (suc (suc i))) b h d e f = absurd (omega arith)
 
-pub with-level-spec : {M : Type 1} → statement M
-with-level-spec = tie.close (tie.spec (λ c κs. search rules) (λ c κs. search rules) (λ c κs. search rules) (λ c. search by_number))
+pub with_level_spec : {M : Type 1} → statement M
+with_level_spec = tie.close (tie.spec (λ c κs. search rules) (λ c κs. search rules) (λ c κs. search rules) (λ c. search by_number))

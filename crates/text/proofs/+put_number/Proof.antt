@@ -29,8 +29,8 @@ module _ (t : ℕ) where
   fewer_digits : put-number-lts.Need-put-number-requires calls put-number-at put-number.Post
   fewer_digits c κs = (omega arith, search room-more)
 
-pub +put-number-spec : {M : Type 1} → statement M
-+put-number-spec = close μ-put-number λ t. put-number-lts.spec (calls t) (put-number-at t) put-number.Post
+pub +put_number_spec : {M : Type 1} → statement M
++put_number_spec = close μ-put-number λ t. put-number-lts.spec (calls t) (put-number-at t) put-number.Post
     (λ c κs. search rules) (λ c. search rules) (λ c κs. search room-one)
     (λ c. search rules) (λ c. search put_one) (fewer_digits t)
     (λ c. search rules) (λ c κs. search room-last)

@@ -12,5 +12,5 @@ from-48 : tie.Need-returns-2
 unfolding is_digit
 from-48 c = simp (le-leb _ _ c.if1.false)
 
-pub is-digit-spec : {M : Type 1} → statement M
-is-digit-spec = tie.close (tie.spec below-48 from-48)
+pub is_digit_spec : {M : Type 1} → statement M
+is_digit_spec = tie.close (tie.spec below-48 from-48)

@@ -8,5 +8,5 @@ returns : tie.Need-returns
 unfolding figure
 returns c = search rules
 
-pub last-figure-spec : {M : Type 1} → statement M
-last-figure-spec = tie.close (tie.spec (λ c. search rules) (λ c. search rules) returns)
+pub last_figure_spec : {M : Type 1} → statement M
+last_figure_spec = tie.close (tie.spec (λ c. search rules) (λ c. search rules) returns)

@@ -31,8 +31,8 @@ two-fit c = omega (arith, x-and-y c.before.before.before.args.level)
 three-fit : tie.Need-overflow-add-result-2
 three-fit c = omega (arith, all_three c.before.before.before.args.level)
 
-pub count-remaining-spec : {M : Type 1} → statement M
-count-remaining-spec =
+pub count_remaining_spec : {M : Type 1} → statement M
+count_remaining_spec =
     tie.close
     (tie.spec
     (λ c. search rules) (λ c. search rules) (λ c. search rules)

@@ -4,5 +4,5 @@ use borrow.Author.Rules.{rules}
 use Rattle.walk.proofs.steps_allowed.Statement.{statement}
 use Rattle.walk.proofs.steps_allowed.Tie as tie
 
-pub steps-allowed-spec : {M : Type 1} → statement M
-steps-allowed-spec = tie.close (tie.spec (λ c κs. search rules) (λ c. omega arith) (λ c. omega arith))
+pub steps_allowed_spec : {M : Type 1} → statement M
+steps_allowed_spec = tie.close (tie.spec (λ c κs. search rules) (λ c. omega arith) (λ c. omega arith))

@@ -3,5 +3,5 @@ use Rattle.walk.proofs.Units.{rank-fits, units-made}
 use Rattle.walk.proofs.unit_vectors.Statement.{statement}
 use Rattle.walk.proofs.unit_vectors.Tie as tie
 
-pub unit-vectors-spec : {M : Type 1} → statement M
-unit-vectors-spec = tie.close (tie.spec (λ c. search rank-fits) (λ c. search rank-fits) (λ c. search rank-fits) (λ c. search units-made))
+pub unit_vectors_spec : {M : Type 1} → statement M
+unit_vectors_spec = tie.close (tie.spec (λ c. search rank-fits) (λ c. search rank-fits) (λ c. search rank-fits) (λ c. search units-made))

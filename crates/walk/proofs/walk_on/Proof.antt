@@ -19,8 +19,8 @@ step-taken c = search walks-on
 ended : tie.Need-returns-2 invariant-loop decreases-loop
 ended c = search walks
 
-pub walk-on-spec : {M : Type 1} → statement M
-walk-on-spec =
+pub walk_on_spec : {M : Type 1} → statement M
+walk_on_spec =
     tie.close
     (tie.spec
     invariant-loop
