@@ -12,7 +12,7 @@ use falls::{Falls, Scene};
 use rules::Look;
 
 // A unit vector laid in, or minus it: its axis, the side of the box and the apex's part along it, its own part there and its rank.
-#[derive(Drop)]
+#[derive(Clone, Copy)]
 pub struct Line {
     pub axis: u32,
     pub side: u16,

@@ -12,7 +12,7 @@ use rules::{Levels, Pick, ReadyStart, Solid, Stack, Vector, Wedge};
 use start::Start;
 
 // What is asked: a pick, a quick touch or a check of a start, or a walk from a ready start.
-#[derive(Drop)]
+#[derive(Clone, Copy)]
 pub enum Call {
     Pick(Vector),
     Touch(Vector),
@@ -21,7 +21,7 @@ pub enum Call {
 }
 
 // What a call comes to. Only a check comes to a ready start.
-#[derive(Drop)]
+#[derive(Clone, Copy)]
 pub enum Outcome {
     Ready(ReadyStart),
     Ended(Pick),

@@ -7,7 +7,7 @@ ghost use Rattle.choice.specs.Best.{best_of, none_best, lighter};
 use rules::Vector;
 
 // The best falling pair so far, by its number in the order of pairs, and its weight; while none fell, 6 and more than any weight.
-#[derive(Drop)]
+#[derive(Clone, Copy)]
 pub struct Best {
     pub pair: u32,
     pub weight: i32,

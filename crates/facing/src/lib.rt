@@ -11,7 +11,7 @@ use falls::Scene;
 use rules::{Look, Refused, Vector};
 
 // No refusal so far, after so many looks; or a refusal.
-#[derive(Drop)]
+#[derive(Clone, Copy)]
 pub enum Cleared {
     Clear(u32),
     Refused(Refused),

@@ -11,7 +11,7 @@ use rules::{Look, Solid, Vector};
 use solid::Grid;
 
 // What every question of one pick or touch is about; the solid's bytes are lent beside it. The solid's grid and the apex's rank, `here`, are made once. Powers go up to the span, steps are allowed by the reach.
-#[derive(Drop)]
+#[derive(Clone, Copy)]
 pub struct Scene {
     pub solid: Solid,
     pub grid: Grid,
@@ -23,7 +23,7 @@ pub struct Scene {
 }
 
 // Each with the looks so far.
-#[derive(Drop)]
+#[derive(Clone, Copy)]
 pub enum Falls {
     Fell(u32),
     Kept(u32),

@@ -10,7 +10,7 @@ use rules::{
 // `ulgenzhir_point` is `rules::Vector`.
 
 #[repr(C)]
-#[derive(Drop)]
+#[derive(Clone, Copy)]
 pub struct FlatPick {
     pub number: u32,
     pub place: Vector,
@@ -24,7 +24,7 @@ pub struct FlatPick {
 }
 
 #[repr(C)]
-#[derive(Drop)]
+#[derive(Clone, Copy)]
 pub struct FlatTouch {
     pub number: u32,
     pub guess: u32,
@@ -39,7 +39,7 @@ pub struct FlatTouch {
 }
 
 #[repr(C)]
-#[derive(Drop)]
+#[derive(Clone, Copy)]
 pub struct FlatReady {
     pub start: Vector,
     pub apex: Vector,
@@ -48,7 +48,7 @@ pub struct FlatReady {
 }
 
 #[repr(C)]
-#[derive(Drop)]
+#[derive(Clone, Copy)]
 pub struct FlatCheck {
     pub number: u32,
     pub place: Vector,
@@ -57,7 +57,7 @@ pub struct FlatCheck {
 }
 
 #[repr(C)]
-#[derive(Drop)]
+#[derive(Clone, Copy)]
 pub struct FlatLean {
     pub number: u32,
     pub part: u64,
@@ -65,7 +65,7 @@ pub struct FlatLean {
 }
 
 #[repr(C)]
-#[derive(Drop)]
+#[derive(Clone, Copy)]
 pub struct FlatFirm {
     pub number: u32,
     pub place: Vector,
@@ -76,7 +76,7 @@ pub struct FlatFirm {
 }
 
 #[repr(C)]
-#[derive(Drop)]
+#[derive(Clone, Copy)]
 pub struct FlatReading {
     pub number: u32,
     pub value: u64,
@@ -86,14 +86,14 @@ pub struct FlatReading {
 }
 
 #[repr(C)]
-#[derive(Drop)]
+#[derive(Clone, Copy)]
 pub struct FlatWriting {
     pub number: u32,
     pub value: u64,
 }
 
 #[repr(C)]
-#[derive(Drop)]
+#[derive(Clone, Copy)]
 pub struct FlatDisplay {
     pub number: u32,
     pub x: f32,

@@ -13,7 +13,7 @@ use rules::{Levels, Look, Solid, Triangle, Vector};
 use solid::Grid;
 
 // What every look of one footing is about: the solid, whose bytes are lent beside it, the start, and of what the ways are made.
-#[derive(Drop)]
+#[derive(Clone, Copy)]
 pub struct Ground {
     pub solid: Solid,
     pub grid: Grid,
@@ -24,14 +24,14 @@ pub struct Ground {
 }
 
 // Whether all that was looked at stands; each with the looks so far.
-#[derive(Drop)]
+#[derive(Clone, Copy)]
 enum Stood {
     All(u32),
     NotAll(u32),
 }
 
 // The last power at which all stood, 0 if at none, and the looks so far.
-#[derive(Drop)]
+#[derive(Clone, Copy)]
 pub struct Footed {
     pub power: u32,
     pub looks: u32,

@@ -9,14 +9,14 @@ use falls::Scene;
 use rules::{ReadyStart, Refused, Solid, Vector};
 
 // From where the rounds begin: a start p that is asked, quickly or not; or a ready start, which is asked no more.
-#[derive(Drop)]
+#[derive(Clone, Copy)]
 pub enum Begin {
     Asked(bool, Vector),
     Handed(ReadyStart),
 }
 
 // The scene to walk in, or a refusal 1 to 4.
-#[derive(Drop)]
+#[derive(Clone, Copy)]
 pub enum Fit {
     Scene(Scene),
     Refused(Refused),

@@ -6,20 +6,20 @@ ghost use Rattle.line.specs.Reading.{PartEnds, DigitsRead, NumberRead, signed_of
 use rules::{Line, Number, Question, Vector, Wedge};
 
 // What digits say.
-#[derive(Drop)]
+#[derive(Clone, Copy)]
 enum Digits {
     Value(u64),
     NoDigits,
 }
 
 // A number and the place behind the space after it.
-#[derive(Drop)]
+#[derive(Clone, Copy)]
 enum Field {
     Holds(i32, usize),
     NoField,
 }
 
-#[derive(Drop)]
+#[derive(Clone, Copy)]
 enum Three {
     Values(Vector, usize),
     NoThree,

@@ -5,21 +5,21 @@ ghost use Rattle.rules.specs.P4.{is_end, is_white};
 ghost use Rattle.p4_header.specs.Reads.{Stands, Comment, White, Mix, Digits, FieldIs, SizesAre, HeaderIs};
 
 // A place, or a refusal with its number and the number returned; and so below.
-#[derive(Drop)]
+#[derive(Clone, Copy)]
 pub enum PlaceRead {
     At(usize),
     NotAt(u32, usize),
 }
 
 // A number's value and the place past the white space behind it.
-#[derive(Drop)]
+#[derive(Clone, Copy)]
 enum FieldRead {
     Value(usize, usize),
     NoValue(u32, usize),
 }
 
 // Width, height and the place of the rows.
-#[derive(Drop)]
+#[derive(Clone, Copy)]
 pub enum HeaderRead {
     Sizes(usize, usize, usize),
     NoSizes(u32, usize),
@@ -121,7 +121,7 @@ fn skip_mix(src: &[u8], at: usize) -> usize
     i
 }
 
-#[derive(Drop)]
+#[derive(Clone, Copy)]
 struct Number {
     value: usize,
     next: usize,

@@ -44,7 +44,7 @@ fn find_rows(src: &[u8], at: usize, width: usize, height: usize) -> PlaceRead
 }
 
 // How many images there are, or a refusal with its number and the number returned.
-#[derive(Drop)]
+#[derive(Clone, Copy)]
 enum DepthRead {
     Depth(usize),
     NoDepth(u32, usize),

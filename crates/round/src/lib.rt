@@ -16,7 +16,7 @@ use falls::{Falls, Scene};
 use rules::{Levels, Triangle, Vector};
 
 // The best so far, or the point outside at which the round stopped; each with the looks so far.
-#[derive(Drop)]
+#[derive(Clone, Copy)]
 pub enum Round {
     Asked(Best, u32),
     Stopped(Vector, u32),

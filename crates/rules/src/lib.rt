@@ -2,7 +2,7 @@
 
 // A vector, a voxel or a place. The panel's C interface has it as it is.
 #[repr(C)]
-#[derive(Drop)]
+#[derive(Clone, Copy)]
 pub struct Vector {
     pub x: i32,
     pub y: i32,
@@ -11,7 +11,7 @@ pub struct Vector {
 
 // ---- solids
 
-#[derive(Drop)]
+#[derive(Clone, Copy)]
 pub struct Wedge {
     pub a: i32,
     pub b: i32,
@@ -20,20 +20,20 @@ pub struct Wedge {
 }
 
 // The bytes of a stack are lent beside it.
-#[derive(Drop)]
+#[derive(Clone, Copy)]
 pub struct Stack {
     pub width: i32,
     pub height: i32,
     pub depth: i32,
 }
 
-#[derive(Drop)]
+#[derive(Clone, Copy)]
 pub enum Solid {
     Wedge(Wedge),
     Stack(Stack),
 }
 
-#[derive(Drop)]
+#[derive(Clone, Copy)]
 pub enum Look {
     Filled,
     Empty,
@@ -43,14 +43,14 @@ pub enum Look {
 // ---- the walk
 
 // Which of the axes 0, 1, 2 are level.
-#[derive(Drop)]
+#[derive(Clone, Copy)]
 pub struct Levels {
     pub x: bool,
     pub y: bool,
     pub z: bool,
 }
 
-#[derive(Drop)]
+#[derive(Clone, Copy)]
 pub struct Triangle {
     pub m0: Vector,
     pub m1: Vector,
@@ -58,7 +58,7 @@ pub struct Triangle {
 }
 
 // The pair (k, l).
-#[derive(Drop)]
+#[derive(Clone, Copy)]
 pub enum Pair {
     P01,
     P02,
@@ -68,7 +68,7 @@ pub enum Pair {
     P21,
 }
 
-#[derive(Drop)]
+#[derive(Clone, Copy)]
 pub enum Choice {
     Nothing,
     Chosen(Pair),
@@ -76,7 +76,7 @@ pub enum Choice {
 
 // ---- the pick's answer
 
-#[derive(Drop)]
+#[derive(Clone, Copy)]
 pub struct Accepted {
     pub normal: Vector,
     pub triangle: Triangle,
@@ -85,7 +85,7 @@ pub struct Accepted {
     pub looks: u32,
 }
 
-#[derive(Drop)]
+#[derive(Clone, Copy)]
 pub struct Refused {
     pub number: u32,
     pub place: Vector,
@@ -93,7 +93,7 @@ pub struct Refused {
     pub looks: u32,
 }
 
-#[derive(Drop)]
+#[derive(Clone, Copy)]
 pub enum Pick {
     Accepted(Accepted),
     Refused(Refused),
@@ -101,7 +101,7 @@ pub enum Pick {
 
 // ---- the start check's answer: a ready start, from which a walk goes on
 
-#[derive(Drop)]
+#[derive(Clone, Copy)]
 pub struct ReadyStart {
     pub start: Vector,
     pub apex: Vector,
@@ -109,7 +109,7 @@ pub struct ReadyStart {
     pub looks: u32,
 }
 
-#[derive(Drop)]
+#[derive(Clone, Copy)]
 pub enum Check {
     Ready(ReadyStart),
     Refused(Refused),
@@ -117,7 +117,7 @@ pub enum Check {
 
 // ---- the quick touch's answer: what it accepts is always a guess
 
-#[derive(Drop)]
+#[derive(Clone, Copy)]
 pub enum Touch {
     Guess(Accepted),
     Refused(Refused),
@@ -126,28 +126,28 @@ pub enum Touch {
 // ---- how far an accepted normal may lean, and how firm its footing is
 
 // The squared sine of the lean is below part / whole.
-#[derive(Drop)]
+#[derive(Clone, Copy)]
 pub struct Bound {
     pub part: u64,
     pub whole: u64,
 }
 
 // A refusal has its number.
-#[derive(Drop)]
+#[derive(Clone, Copy)]
 pub enum Lean {
     Known(Bound),
     Unknown(u32),
 }
 
 // Firm to the power, 0 if not at all.
-#[derive(Drop)]
+#[derive(Clone, Copy)]
 pub struct Footing {
     pub power: u32,
     pub looks: u32,
     pub bound: Bound,
 }
 
-#[derive(Drop)]
+#[derive(Clone, Copy)]
 pub enum Firm {
     Stands(Footing),
     Refused(Refused),
@@ -156,14 +156,14 @@ pub enum Firm {
 // ---- the display normal's answer
 
 // Three components for the shader.
-#[derive(Drop)]
+#[derive(Clone, Copy)]
 pub struct Light {
     pub x: f32,
     pub y: f32,
     pub z: f32,
 }
 
-#[derive(Drop)]
+#[derive(Clone, Copy)]
 pub enum Display {
     Lit(Light),
     Unlit(u32),
@@ -171,13 +171,13 @@ pub enum Display {
 
 // ---- the answers of P4's reader and writer; a refusal has its number and the number returned
 
-#[derive(Drop)]
+#[derive(Clone, Copy)]
 pub enum Reading {
     Read(Stack),
     Unread(u32, usize),
 }
 
-#[derive(Drop)]
+#[derive(Clone, Copy)]
 pub enum Writing {
     Written(usize),
     Unwritten(u32, usize),
@@ -186,13 +186,13 @@ pub enum Writing {
 // ---- the session's lines
 
 // What a part of a line says.
-#[derive(Drop)]
+#[derive(Clone, Copy)]
 pub enum Number {
     Whole(i32),
     NoNumber,
 }
 
-#[derive(Drop)]
+#[derive(Clone, Copy)]
 pub struct Question {
     pub wedge: Wedge,
     pub p: Vector,
@@ -200,7 +200,7 @@ pub struct Question {
     pub reach: i32,
 }
 
-#[derive(Drop)]
+#[derive(Clone, Copy)]
 pub enum Line {
     Asks(Question),
     OtherForm,

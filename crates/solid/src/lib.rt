@@ -34,7 +34,7 @@ pub fn is_permitted(s: Solid, bytes: &[u8]) -> bool
 // ---- the box
 
 // The sides of the box, and by what voxels are ranked. A side of 16 bits is never negative, so the compiler tests a point by one comparison a side.
-#[derive(Drop)]
+#[derive(Clone, Copy)]
 pub struct Grid {
     pub width: u16,
     pub height: u16,

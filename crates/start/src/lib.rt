@@ -16,14 +16,14 @@ use falls::{Falls, Scene};
 use rules::{Levels, Refused, Vector};
 
 // Whether an axis is level, after so many looks; or a refusal.
-#[derive(Drop)]
+#[derive(Clone, Copy)]
 enum AxisAnswer {
     Asked(bool, u32),
     Refused(Refused),
 }
 
 // p is filled, q is not and some axis is not level: which are level, after so many looks; or a refusal.
-#[derive(Drop)]
+#[derive(Clone, Copy)]
 pub enum Start {
     Begun(Levels, u32),
     Refused(Refused),

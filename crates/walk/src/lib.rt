@@ -12,7 +12,7 @@ use round::Round;
 use rules::{Levels, Refused, Triangle, Vector};
 
 // No pair falls: the triangle laid in, the steps and the looks; or a refusal.
-#[derive(Drop)]
+#[derive(Clone, Copy)]
 pub enum Walked {
     Ended(Triangle, u32, u32),
     Refused(Refused),
