@@ -179,15 +179,18 @@ module _ (solid : Solid) (bytes : List ℕ) (p : Vector) (frame reach : ℤ) whe
   abbrev K : ℕ
   K = length (powers (nat_abs reach))
 
+  abbrev most : ℕ
+  most = 2 + K * (6 * max (nat_abs reach) 3 - 9)
+
   tells : (N : ℕ) → (nat_abs reach ≤ 256 → 2 + K * (6 * max (nat_abs reach) 3 - 9) ≤ N) → AnswerSays (Few N FoundOn) (Few N RefusalOn) (pick_of solid bytes p frame reach)
   unfolding pick_of
   tells N h = answer-says _ _ (pick (permitted solid bytes) (look solid bytes) p frame reach) (pick-says (permitted solid bytes) (look solid bytes) p frame reach N h)
 
   pub accepted-tells : (a : AcceptedPick) → pick_of solid bytes p frame reach ≡ Accepted a → FoundOn (found_of a)
-  accepted-tells a e = (subst (AnswerSays _ _) e (tells _ (λ _. NatL.le_refl _))).1.holds
+  accepted-tells a e = (subst (AnswerSays (Few most FoundOn) (Few most RefusalOn)) e (tells most (λ _. NatL.le_refl _))).1.holds
 
   pub refused-tells : (r : RefusedPick) → pick_of solid bytes p frame reach ≡ Refused r → RefusalOn (stop_of r)
-  refused-tells r e = (subst (AnswerSays _ _) e (tells _ (λ _. NatL.le_refl _))).1.holds
+  refused-tells r e = (subst (AnswerSays (Few most FoundOn) (Few most RefusalOn)) e (tells most (λ _. NatL.le_refl _))).1.holds
 
   pub few-steps : steps_of (pick_of solid bytes p frame reach) ≤ nat_abs reach - 2
   unfolding found
