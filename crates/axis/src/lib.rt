@@ -1,4 +1,6 @@
 // An axis by its number: its unit vector, a vector's part along it, and the vector with another part there.
+#![tactic(auto)]
+
 ghost use Rattle.std.specs.Prelude.{◌≡◌, ◌<◌};
 ghost use Rattle.rules.specs.Walk.{unit};
 ghost use Rattle.laws.specs.Parts.{part};

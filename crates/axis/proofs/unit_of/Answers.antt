@@ -5,12 +5,10 @@ use native.Mathlib.Omega.{arith}
 use lib.Dec.{eqb}
 use mir.Syntax.{w32}
 use mir.Val.{to_z, bool_byte}
-use borrow.Author.Rules.{rules}
 use Rattle.rules.specs.Vectors.{vector}
 use Rattle.rules.specs.Walk.{unit}
 use Rattle.axis.specs.Axes.{axis_at}
-use Rattle.axis.proofs.unit_of.Statement.{statement}
-use Rattle.axis.proofs.unit_of.Tie as tie
+use Rattle.axis.proofs.unit_of.Goals as goal
 
 by_number : (i : ℕ) → i < 3 → vector (to_z w32 (bool_byte (eqb i 0))) (to_z w32 (bool_byte (eqb i 1))) (to_z w32 (bool_byte (eqb i 2))) ≡ unit (axis_at i)
 by_number zero h = refl
@@ -18,5 +16,5 @@ by_number (suc zero) h = refl
 by_number (suc (suc zero)) h = refl
 by_number (suc (suc (suc i))) h = absurd (omega arith)
 
-pub unit_of_spec : {M : Type 1} → statement M
-unit_of_spec = tie.close (tie.spec (λ c. search rules) (λ c. search rules) (λ c. search rules) (λ c. search by_number))
+pub returns : goal.returns
+returns c = search by_number

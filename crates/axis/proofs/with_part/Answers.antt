@@ -5,26 +5,19 @@ use Rattle.rules.specs.Walk.{Axis}
 use Rattle.laws.specs.Parts.{vector-eq}
 use Rattle.axis.specs.Axes.{with_part}
 use Rattle.axis.specs.Numbers.{first, second, third}
-use Rattle.axis.proofs.with_part.Statement.{statement}
-use Rattle.axis.proofs.with_part.Tie as tie
+use Rattle.axis.proofs.with_part.Goals as goal
 
-along-x : tie.Need-returns
-along-x c =
-    let s = c.before.before in
+pub returns-then-axis-eq0 : goal.returns-then-axis-eq0
+returns-then-axis-eq0 c =
     vector-eq (value (search (machine, typed) depth 30 fits 5000) tt) (value (search (machine, typed) depth 30 fits 5000) tt) (value (search (machine, typed) depth 30 fits 5000) tt)
-    ∙ ap (λ (k : Axis). with_part s.args.v k s.args.z) (first c.before.if1.true)
+    ∙ ap (λ (k : Axis). with_part c.args.v k c.args.z) (first c.if-axis-eq0.true)
 
-along-y : tie.Need-returns-2
-along-y c =
-    let s = c.before.before.before in
+pub returns-then-axis-eq1 : goal.returns-then-axis-eq1
+returns-then-axis-eq1 c =
     vector-eq (value (search (machine, typed) depth 30 fits 5000) tt) (value (search (machine, typed) depth 30 fits 5000) tt) (value (search (machine, typed) depth 30 fits 5000) tt)
-    ∙ ap (λ (k : Axis). with_part s.args.v k s.args.z) (second c.before.if2.true)
+    ∙ ap (λ (k : Axis). with_part c.args.v k c.args.z) (second c.if-axis-eq1.true)
 
-along-z : tie.Need-returns-3
-along-z c =
-    let s = c.before.before.before in
+pub returns : goal.returns
+returns c =
     vector-eq (value (search (machine, typed) depth 30 fits 5000) tt) (value (search (machine, typed) depth 30 fits 5000) tt) (value (search (machine, typed) depth 30 fits 5000) tt)
-    ∙ ap (λ (k : Axis). with_part s.args.v k s.args.z) (third s.requires c.before.before.if1.false c.before.if2.false)
-
-pub with_part_spec : {M : Type 1} → statement M
-with_part_spec = tie.close (tie.spec along-x along-y along-z)
+    ∙ ap (λ (k : Axis). with_part c.args.v k c.args.z) (third c.requires c.if-axis-eq0.false c.if-axis-eq1.false)
