@@ -1,4 +1,6 @@
 // A refusal: its number and its place, with the steps and the looks so far.
+#![tactic(auto)]
+
 ghost use Rattle.std.specs.Prelude.{◌≡◌};
 ghost use Rattle.refusals.specs.Refusals.{refusal_of};
 

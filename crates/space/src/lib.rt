@@ -1,4 +1,6 @@
 // Whole vectors in i32, and their products. Each function equals the definition of its name, on vectors small enough.
+#![tactic(auto)]
+
 ghost use Rattle.std.specs.Prelude.{◌≡◌, ◌≤◌, pos, ◌-ℤ◌, ◌*ℤ◌};
 ghost use Rattle.integers.specs.Sizes.{Within};
 ghost use Rattle.rules.specs.Vectors.{◌⊕◌, ◌⊖◌, minus, scale, dot, cross, lay, size};

@@ -1,5 +1,4 @@
 -- Three sizes of at most 10^9 add up within 32 bits. Each is that of a part, which is read back from bits.
-use borrow.Author.Rules.{rules}
 use mathlib.Core.Path.{◌≡◌, ap₂, ◌∙◌}
 use Prim.Native.Nat.{ℕ, ◌+◌}
 use native.Mathlib.Omega.{arith}
@@ -9,8 +8,7 @@ use mir.Val.{Fits, to_z, of_z}
 use Rattle.integers.specs.Sizes.{Within}
 use Rattle.integers.specs.Machine.{machine, value}
 use Rattle.rules.specs.Vectors.{size}
-use Rattle.space.proofs.size.Statement.{statement}
-use Rattle.space.proofs.size.Tie as tie
+use Rattle.space.proofs.size.Goals as goal
 
 -- what a call says: r is the size of the part x, read from bits
 abbrev Read : ℤ → ℕ → Type 0
@@ -31,13 +29,12 @@ three-fit e f g h k l = omega (arith, part e h, part f k, part g l, h.size, k.si
 sum : {x y z : ℤ} {r s t : ℕ} → Read x r → Read y s → Read z t → Low x → Low y → Low z → r + s + t ≡ nat_abs x + nat_abs y + nat_abs z
 sum e f g h k l = ap₂ ◌+◌ (ap₂ ◌+◌ (part e h) (part f k)) (part g l)
 
-returns : tie.Need-returns
+pub overflow_add-result : goal.overflow_add-result
+overflow_add-result c = search two-fit
+
+pub overflow_add-result-2 : goal.overflow_add-result-2
+overflow_add-result-2 c = search three-fit
+
+pub returns : goal.returns
 unfolding size
 returns c = search sum
-
-pub size_spec : {M : Type 1} → statement M
-size_spec =
-    tie.close
-    (tie.spec
-    (λ c κs. search rules) (λ c κs. search rules) (λ c κs. search rules) (λ c. search two-fit) (λ c. search three-fit)
-    returns)
