@@ -1,4 +1,6 @@
 // The two solids behind one look.
+#![tactic(auto)]
+
 ghost use Rattle.std.specs.Prelude.{◌≡◌, ◌<◌, pos, true};
 ghost use Rattle.rules.specs.Vectors.{dot};
 ghost use Rattle.rules.specs.Solids.{permitted_wedge, permitted, in_side, in_box, seen_as, look};

@@ -1,0 +1,23 @@
+-- The grid's test, then the voxel by its rank.
+use mathlib.Core.Path.{◌∙◌}
+use mir.Syntax.{w32}
+use Rattle.integers.specs.Machine.{back}
+use Rattle.solid.proofs.Looks.{looked-outside, rank-asks, rank-known, see-asks, looked-inside}
+use Rattle.solid.proofs.look_at.Goals as goal
+
+pub rank_of-requires : goal.rank_of-requires
+rank_of-requires c =
+    rank-asks c.args.p c.requires.0 c.requires.1 c.is_inside.ensures c.if-is_inside.true
+
+pub see-requires : goal.see-requires
+see-requires c =
+    let known = rank-known c.args.p c.requires.0 c.requires.1 c.is_inside.ensures c.if-is_inside.true c.rank_of.ensures in
+    see-asks c.args.p c.requires.0 c.requires.1 c.is_inside.ensures c.if-is_inside.true (back w32 _ c.rank_of.type_inv ∙ known)
+
+pub returns-then-is_inside : goal.returns-then-is_inside
+returns-then-is_inside c =
+    let known = rank-known c.args.p c.requires.0 c.requires.1 c.is_inside.ensures c.if-is_inside.true c.rank_of.ensures in
+    looked-inside c.args.p c.requires.0 c.requires.1 c.is_inside.ensures c.if-is_inside.true (back w32 _ c.rank_of.type_inv ∙ known) c.see.ensures
+
+pub returns-else-is_inside : goal.returns-else-is_inside
+returns-else-is_inside c = search looked-outside
