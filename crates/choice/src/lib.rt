@@ -1,4 +1,6 @@
 // The choice among falling pairs: a pair's weight, and the best so far. In 32 bits throughout, to which `tests/choice` holds it.
+#![tactic(auto)]
+
 ghost use Rattle.std.specs.Prelude.{◌≡◌};
 ghost use Rattle.rules.specs.Vectors.{dot};
 ghost use Rattle.laws.specs.Bounds.{Bounded};

@@ -1,5 +1,4 @@
 -- `choice::weigh` meets its contract: by what `dot` promises.
-use borrow.Author.Rules.{rules}
 use Rattle.choice.proofs.Bits.{weight-read}
 use Rattle.choice.proofs.weigh.Goals as goal
 
