@@ -1,4 +1,6 @@
 // Whether a vector falls.
+#![tactic(auto)]
+
 ghost use Rattle.std.specs.Prelude.{◌≡◌};
 ghost use Rattle.rules.specs.Vectors.{dot};
 ghost use Rattle.laws.specs.Bounds.{Bounded};

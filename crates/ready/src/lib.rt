@@ -1,4 +1,6 @@
 // Refusal 13: whether a walk may begin from a ready start.
+#![tactic(auto)]
+
 ghost use Rattle.std.specs.Prelude.{◌≡◌, ◌≤◌, length};
 ghost use Rattle.rules.specs.Walk.{powers};
 ghost use Rattle.rules.specs.TwoCalls.{is_ready};
