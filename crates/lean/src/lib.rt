@@ -1,4 +1,6 @@
 // Known lean: how far the face can lean from an accepted normal, told by the answer itself.
+#![tactic(auto)]
+
 ghost use Rattle.std.specs.Prelude.{◌≡◌, true, ◌≤◌, max};
 ghost use Rattle.rules.specs.Lean.{within, levels_of, measurable, squared, spread, last_power, bound_at, LeanPromise};
 ghost use Rattle.laws.specs.Triples.{All};

@@ -5,7 +5,6 @@ use native.Mathlib.Omega.{arith}
 use lib.Dec.{lit≤}
 use mir.Syntax.{w64}
 use mir.Val.{Fits}
-use borrow.Author.Rules.{rules}
 use Rattle.rules.specs.Lean.{bound_at}
 use Rattle.laws.specs.Bounds.{bounded-wider}
 use Rattle.lean.specs.Sizes.{measured, squared-low}

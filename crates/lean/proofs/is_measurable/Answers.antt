@@ -1,5 +1,4 @@
 -- `lean::is_measurable` meets its contract: by the tests of the four vectors, and whether the normal is one of zeros.
-use borrow.Author.Rules.{rules}
 use Rattle.rules.specs.Walk.{all_level}
 use Rattle.rules.specs.Lean.{measurable}
 use Rattle.lean.proofs.is_measurable.Goals as goal

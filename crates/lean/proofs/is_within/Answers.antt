@@ -1,6 +1,5 @@
 -- `lean::is_within` meets its contract: by the three sizes, which are read back from bits.
 use mir.Syntax.{w32}
-use borrow.Author.Rules.{rules}
 use Rattle.integers.specs.Machine.{back}
 use Rattle.rules.specs.Lean.{within}
 use Rattle.lean.proofs.is_within.Goals as goal

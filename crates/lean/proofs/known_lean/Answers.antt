@@ -1,5 +1,4 @@
 -- `lean::known_lean` meets its contract: by the one test of the reach and of the answer. What it found makes the cast and the powers fit.
-use borrow.Author.Rules.{rules}
 use Rattle.lean.proofs.Knowing.{reach-natural, reach-fits, reach-low, answer-measurable, power-low, known-promised, unknown-promised, refused-promised}
 use Rattle.lean.proofs.known_lean.Goals as goal
 

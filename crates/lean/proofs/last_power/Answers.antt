@@ -1,7 +1,5 @@
 -- `lean::last_power` meets its contract. The loop keeps `Lasting`; the powers below 512 that are left are the measure.
-use Prim.Native.Nat.{◌-◌}
-use native.Mathlib.Omega.{arith}
-use Rattle.lean.proofs.Lasting.{Lasting, lasting-starts, lasting-more, lasting-ends}
+use Rattle.lean.proofs.Lasting.{lasting-starts, lasting-more, lasting-ends}
 use Rattle.lean.proofs.last_power.Goals as goal
 
 pub loop-power-init : goal.loop-power-init

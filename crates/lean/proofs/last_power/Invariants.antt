@@ -1,7 +1,6 @@
 -- `lean::last_power` meets its contract. The loop keeps `Lasting`; the powers below 512 that are left are the measure.
 use Prim.Native.Nat.{◌-◌}
-use native.Mathlib.Omega.{arith}
-use Rattle.lean.proofs.Lasting.{Lasting, lasting-starts, lasting-more, lasting-ends}
+use Rattle.lean.proofs.Lasting.{Lasting}
 use Rattle.lean.proofs.last_power.Given as goal
 
 abbrev pub invariant-loop-power : goal.invariant-loop-power

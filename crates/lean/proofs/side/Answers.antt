@@ -1,6 +1,5 @@
 -- `lean::side` meets its contract: a way between vectors within 2046 is within 4092.
 use mathlib.Core.Path.{ap, ◌∙◌}
-use borrow.Author.Rules.{rules}
 use Rattle.rules.specs.Lean.{squared}
 use Rattle.laws.specs.Bounds.{bounded-is, bounded-difference}
 use Rattle.lean.proofs.side.Goals as goal

@@ -1,5 +1,4 @@
 -- `lean::spread_of` meets its contract: a side that takes no part counts 0. Three sides of at most 3·4092² and three axes fit.
-use borrow.Author.Rules.{rules}
 use Rattle.lean.proofs.Spreading.{two-fit, three-fit, sum_low, sum_is}
 use Rattle.lean.proofs.spread_of.Goals as goal
 

@@ -2,7 +2,6 @@
 use mathlib.Core.Path.{ap, ◌∙◌}
 use mir.Syntax.{w32}
 use lib.IntN.{nat_abs}
-use borrow.Author.Rules.{rules}
 use Rattle.integers.specs.Machine.{back}
 use Rattle.rules.specs.Lean.{squared}
 use Rattle.lean.proofs.squared.Goals as goal
