@@ -1,4 +1,6 @@
 // One round: the pairs that take part are asked in their order, and the best of those that fall is kept.
+#![tactic(auto)]
+
 ghost use Rattle.std.specs.Prelude.{◌≡◌, ◌<◌};
 ghost use Rattle.rules.specs.Walk.{from, to};
 ghost use Rattle.laws.specs.Bounds.{Bounded};

@@ -73,13 +73,13 @@ loop-p-preserved c =
     let at = part-sized c.args.scene.apex (axis_at c.args.line.axis) c.loop-p.invariant.sized in
     let here = here-within c.requires.0 in
     let rank = ranked-within c.requires.0 c.loop-p.invariant.sized c.loop-p.invariant.ranked in
-    along-on c.requires.0 c.requires.1 (to_z w32 c.loop-p.at) c.loop-p.invariant c.look_along-seen.ensures c.in-Empty.is c.if-span-power.false (value (search machine depth 30 fits 5000) tt) (value (search machine depth 30 fits 5000) tt)
+    along-on c.requires.0 c.requires.1 _ c.loop-p.invariant c.look_along-seen.ensures c.in-Empty.is c.if-span-power.false (value (search machine depth 30 fits 5000) tt) (value (search machine depth 30 fits 5000) tt)
 
 pub returns-in-Outside : goal.returns-in-Outside
 returns-in-Outside c =
     let from = from-within c.requires.0 c.requires.1 in
     let step = step-within c.requires.1 in
-    along-ends c.requires.0 c.requires.1 (value (search machine depth 30 fits 5000) tt) (stopped-at c.with_part-p.ensures (falls-stopped c.loop-p.invariant c.look_along-seen.ensures c.enum_told-1.given.1))
+    along-ends c.requires.0 c.requires.1 (value (search machine depth 30 fits 5000) tt) (stopped-at c.with_part-p.ensures (falls-stopped c.loop-p.invariant c.look_along-seen.ensures c.in-Outside.is))
 
 pub returns-in-Filled : goal.returns-in-Filled
 returns-in-Filled c =

@@ -1,12 +1,7 @@
 -- `round::ask_round` meets its contract. The loop's invariant: the pairs from here on give what the whole round gives. The measure is the pairs that are left.
-use mathlib.Core.Logic.{⊎_elim}
-use Prim.Native.Nat.{◌-◌}
-use native.Mathlib.Omega.{arith}
-use borrow.Author.Rules.{rules}
-use Rattle.falls.specs.Scene.{probe_of}
-use Rattle.round.specs.Corners.{triangle_in}
-use Rattle.round.proofs.Rounds.{Asking, asking, asking-few}
+use Rattle.round.proofs.Rounds.{asking, asking-few}
 use Rattle.round.proofs.ask_round.Goals as goal
+use Rattle.round.proofs.ask_round.Goals.{then-takes_part+in-Asked, else-takes_part}
 
 pub loop-i-init : goal.loop-i-init
 loop-i-init c = search asking
@@ -20,7 +15,11 @@ pub returns-in-Stopped : goal.returns-in-Stopped
 returns-in-Stopped c = search asking
 
 pub loop-i-preserved : goal.loop-i-preserved
-loop-i-preserved c = ⊎_elim (λ w. search asking) (λ w. search asking) c.if-takes_part.branch
+loop-i-preserved c =
+    elim c.if-takes_part.branch [
+      | then-takes_part+in-Asked w ↦ rw (w.best-is, w.n-is) (search asking)
+      | else-takes_part w ↦ rw (w.best-is, w.n-is) (search asking)
+    ]
 
 pub returns : goal.returns
 returns c = search asking

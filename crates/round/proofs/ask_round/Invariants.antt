@@ -1,11 +1,8 @@
 -- `round::ask_round` meets its contract. The loop's invariant: the pairs from here on give what the whole round gives. The measure is the pairs that are left.
-use mathlib.Core.Logic.{⊎_elim}
 use Prim.Native.Nat.{◌-◌}
-use native.Mathlib.Omega.{arith}
-use borrow.Author.Rules.{rules}
 use Rattle.falls.specs.Scene.{probe_of}
 use Rattle.round.specs.Corners.{triangle_in}
-use Rattle.round.proofs.Rounds.{Asking, asking, asking-few}
+use Rattle.round.proofs.Rounds.{Asking}
 use Rattle.round.proofs.ask_round.Given as goal
 
 abbrev pub invariant-loop-i : goal.invariant-loop-i

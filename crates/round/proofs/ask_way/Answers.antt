@@ -1,6 +1,5 @@
 -- `round::ask_way` meets its contract: by what `ask_falls` promises of the pair's way, whose rank is the difference of two.
 use native.Mathlib.Omega.{arith}
-use borrow.Author.Rules.{rules}
 use Rattle.round.specs.Corners.{index_below, small}
 use Rattle.round.proofs.Ways.{named, both-fit, ranks-fit, rise-is}
 use Rattle.round.proofs.Rounds.{way_asked}

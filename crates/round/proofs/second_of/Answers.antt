@@ -1,5 +1,4 @@
 -- `round::second_of` meets its contract: by the pair.
-use borrow.Author.Rules.{rules}
 use Rattle.round.proofs.Numbers.{seconds}
 use Rattle.round.proofs.second_of.Goals as goal
 

@@ -1,5 +1,4 @@
 -- `round::settle` meets its contract: by the answer.
-use borrow.Author.Rules.{rules}
 use Rattle.round.proofs.Rounds.{settling}
 use Rattle.round.proofs.settle.Goals as goal
 

@@ -1,5 +1,4 @@
 -- `round::skipped` meets its contract: by the level axes. Flags are at most 1, so the sum is at most 63.
-use borrow.Author.Rules.{rules}
 use Rattle.round.proofs.Numbers.{masks}
 use Rattle.round.proofs.skipped.Goals as goal
 

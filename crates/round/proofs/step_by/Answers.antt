@@ -1,5 +1,4 @@
 -- `round::step_by` meets its contract: the difference of two vectors of the triangle and that of their ranks, put in the place of the first.
-use borrow.Author.Rules.{rules}
 use Rattle.round.specs.Corners.{index_below}
 use Rattle.round.proofs.Ways.{named, both-fit, ranks-fit, step-made}
 use Rattle.round.proofs.step_by.Goals as goal

@@ -1,5 +1,4 @@
 -- `round::triangle_of` meets its contract: vector by vector.
-use borrow.Author.Rules.{rules}
 use Rattle.rules.specs.Walk.{triangle}
 use Rattle.round.proofs.triangle_of.Goals as goal
 

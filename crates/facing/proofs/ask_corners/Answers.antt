@@ -1,0 +1,7 @@
+-- `facing::ask_corners` meets its contract: corner by corner.
+use borrow.Author.Rules.{rules}
+use Rattle.facing.proofs.Corners.{three-corners}
+use Rattle.facing.proofs.ask_corners.Goals as goal
+
+pub returns : goal.returns
+returns c = search three-corners
