@@ -1,4 +1,6 @@
 // How far out the ways of an accepted answer stay filled from its start.
+#![tactic(auto)]
+
 ghost use Rattle.std.specs.Prelude.{◌≡◌, ◌+◌, ◌≤◌, ◌<◌};
 ghost use Rattle.rules.specs.Walk.{vector_of, way, level};
 ghost use Rattle.rules.specs.Firm.{belongs, way_of};

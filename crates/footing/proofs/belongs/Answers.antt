@@ -1,5 +1,4 @@
 -- `footing::belongs` meets its contract: a pair by its two axes, a unit vector by its own.
-use borrow.Author.Rules.{rules}
 use Rattle.round.specs.Corners.{index_below}
 use Rattle.footing.proofs.Ways.{pair-belongs, unit-belongs}
 use Rattle.footing.proofs.belongs.Goals as goal

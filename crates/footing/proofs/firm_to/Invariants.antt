@@ -1,8 +1,6 @@
 -- `footing::firm_to` meets its contract. The loop's invariant: the powers from here on give what all of them give. The power doubles up to the reach, so 512 less it is the measure.
 use Prim.Native.Nat.{◌-◌}
-use native.Mathlib.Omega.{arith}
-use borrow.Author.Rules.{rules}
-use Rattle.footing.proofs.Looks.{Rising, rising}
+use Rattle.footing.proofs.Looks.{Rising}
 use Rattle.footing.proofs.firm_to.Given as goal
 
 abbrev pub invariant-loop-k : goal.invariant-loop-k

@@ -1,6 +1,5 @@
 -- `footing::is_level` meets its contract: by the axis's number.
 use mathlib.Core.Path.{ap}
-use borrow.Author.Rules.{rules}
 use Rattle.rules.specs.Walk.{level}
 use Rattle.axis.specs.Numbers.{third}
 use Rattle.footing.proofs.is_level.Goals as goal

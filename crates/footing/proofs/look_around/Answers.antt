@@ -1,10 +1,8 @@
 -- `footing::look_around` meets its contract. The loop's invariant: the ways from here on give what all of them give. The measure is the ways that are left.
-use mathlib.Core.Logic.{⊎_elim}
-use Prim.Native.Nat.{◌-◌}
 use native.Mathlib.Omega.{arith}
-use borrow.Author.Rules.{rules}
-use Rattle.footing.proofs.Looks.{Looking, around-looking}
+use Rattle.footing.proofs.Looks.{around-looking}
 use Rattle.footing.proofs.look_around.Goals as goal
+use Rattle.footing.proofs.look_around.Goals.{then-belongs+in-All, else-belongs}
 
 pub loop-i-init : goal.loop-i-init
 loop-i-init c = search around-looking
@@ -17,7 +15,11 @@ pub returns-in-NotAll : goal.returns-in-NotAll
 returns-in-NotAll c = search around-looking
 
 pub loop-i-preserved : goal.loop-i-preserved
-loop-i-preserved c = ⊎_elim (λ w. search around-looking) (λ w. search around-looking) c.if-belongs.branch
+loop-i-preserved c =
+    elim c.if-belongs.branch [
+      | then-belongs+in-All w ↦ rw w.n-is (search around-looking)
+      | else-belongs w ↦ rw w.n-is (search around-looking)
+    ]
 
 pub returns : goal.returns
 returns c = search around-looking

@@ -1,9 +1,6 @@
 -- `footing::look_around` meets its contract. The loop's invariant: the ways from here on give what all of them give. The measure is the ways that are left.
-use mathlib.Core.Logic.{⊎_elim}
 use Prim.Native.Nat.{◌-◌}
-use native.Mathlib.Omega.{arith}
-use borrow.Author.Rules.{rules}
-use Rattle.footing.proofs.Looks.{Looking, around-looking}
+use Rattle.footing.proofs.Looks.{Looking}
 use Rattle.footing.proofs.look_around.Given as goal
 
 abbrev pub invariant-loop-i : goal.invariant-loop-i

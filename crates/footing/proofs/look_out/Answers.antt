@@ -1,5 +1,4 @@
 -- `footing::look_out` meets its contract: by the look.
-use borrow.Author.Rules.{rules}
 use Rattle.footing.proofs.Ways.{reaching}
 use Rattle.footing.proofs.Looks.{looking}
 use Rattle.footing.proofs.look_out.Goals as goal

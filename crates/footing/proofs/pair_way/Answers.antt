@@ -1,5 +1,4 @@
 -- `footing::pair_way` meets its contract: the difference of the two vectors that the pair names.
-use borrow.Author.Rules.{rules}
 use Rattle.round.specs.Corners.{index_below}
 use Rattle.footing.proofs.Ways.{vector-fits, pair-way-made}
 use Rattle.footing.proofs.pair_way.Goals as goal

@@ -1,6 +1,5 @@
 -- `footing::vector_of` meets its contract: by the axis's number.
 use mathlib.Core.Path.{ap}
-use borrow.Author.Rules.{rules}
 use Rattle.rules.specs.Walk.{vector_of}
 use Rattle.axis.specs.Numbers.{third}
 use Rattle.footing.proofs.vector_of.Goals as goal

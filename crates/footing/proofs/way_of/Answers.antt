@@ -1,5 +1,4 @@
 -- `footing::way_of` meets its contract: by the way's number.
-use borrow.Author.Rules.{rules}
 use Rattle.footing.proofs.Ways.{pair-way-is, units, fitting}
 use Rattle.footing.proofs.way_of.Goals as goal
 
