@@ -1,4 +1,6 @@
 // The header of an image, read front to back.
+#![tactic(auto)]
+
 ghost use Rattle.std.specs.Prelude.{◌≡◌, true, ◌+◌, ◌-◌, ◌*◌, ◌≤◌, min, length};
 ghost use Rattle.rules.specs.Decimals.{is_digit};
 ghost use Rattle.rules.specs.P4.{is_end, is_white};

@@ -10,7 +10,7 @@ use Rattle.std.proofs.Math.ListN.{length-append, length-drop}
 use Rattle.std.proofs.Math.Dec.{eqb}
 use Rattle.std.proofs.lemmas.Bool.{eqb-false}
 use Rattle.rules.specs.Solids.{row_bytes, slice_bytes}
-use Rattle.rules.specs.P4.{Judged, good, wrong, ◌>>=◌, ◌>>◌, judge, rows, image_at, images_at, Header, header_at, stands, sizes, Contents, contents}
+use Rattle.rules.specs.P4.{Judged, good, wrong, ◌>>=◌, judge, rows, image_at, images_at, Header, header_at, stands, sizes, Contents, contents}
 use Rattle.stack.specs.Sides.{Sides}
 use Rattle.p4_laws.specs.Judging.{made, passed, pass, fail}
 use Rattle.p4_laws.specs.Rows.{length-rows, rows-twice, rows_more}

@@ -8,7 +8,7 @@ use lib.Dec.{eqb, leb}
 use borrow.Author.Tests.{eq-eqb, ne_eqb, le-leb, lt-leb}
 use Rattle.integers.specs.Tests.{both, not_first, not-second}
 use Rattle.rules.specs.Solids.{slice_bytes}
-use Rattle.rules.specs.P4.{good, ◌>>=◌, ◌>>◌, judge, image_at}
+use Rattle.rules.specs.P4.{good, ◌>>=◌, judge, image_at}
 use Rattle.p4_laws.specs.Judging.{on, off, pass, fail}
 use Rattle.p4_laws.specs.Headers.{header-in}
 use Rattle.stack.specs.Bytes.{SliceBytes}

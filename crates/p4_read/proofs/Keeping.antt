@@ -9,7 +9,7 @@ use borrow.Author.Count.{below_none, below_more}
 use lib.ListN.{length, get_or, take, drop, set, length-set}
 use lib.Seq.{get_or-set_same, get_or-set_other, take-suc-set}
 use Rattle.rules.specs.Solids.{slice_bytes}
-use Rattle.rules.specs.P4.{Judged, good, wrong, ◌>>=◌, rows, image_at, images_at}
+use Rattle.rules.specs.P4.{Judged, good, wrong, ◌>>=◌, rows, images_at}
 use Rattle.p4_laws.specs.Judging.{on, off}
 use Rattle.p4_laws.specs.Headers.{image-in}
 use Rattle.p4_laws.specs.Images.{followed, images-end, images-full, images-more}

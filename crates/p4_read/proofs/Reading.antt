@@ -9,9 +9,8 @@ use lib.Seq.{sets, sets-eq}
 use lib.Dec.{leb}
 use borrow.Author.Tests.{le-leb, lt-leb}
 use Rattle.rules.specs.declared.Stack.{Stack}
-use Rattle.rules.specs.declared.Reading.{Reading}
 use Rattle.rules.specs.declared.Reading.TheVariants.{Read, Unread}
-use Rattle.rules.specs.Solids.{slice_bytes, stack_bytes}
+use Rattle.rules.specs.Solids.{stack_bytes}
 use Rattle.rules.specs.P4.{Judged, good, wrong, ◌>>=◌, judge, images_at, Contents, contents, reading, read_answer, stored, sizes, ReadPromise}
 use Rattle.p4_laws.specs.Judging.{on, off, pass, fail}
 use Rattle.p4_laws.specs.Headers.{header-in}

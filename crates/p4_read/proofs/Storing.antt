@@ -1,6 +1,6 @@
 -- The loop that stores the rows: those of the places left, stored behind the others, give the whole.
 use mathlib.Core.Path.{◌≡◌, refl, sym, ap, ◌∙◌}
-use mathlib.Core.List.{List, ◌∷◌}
+use mathlib.Core.List.{List}
 use Prim.Native.Nat.{ℕ, suc, ◌+◌, ◌-◌, ◌*◌, ◌≤◌, ◌<◌}
 use native.Mathlib.Nat.{zero-mul, suc-mul, sub-zero, mul-le-mul_right}
 use native.Mathlib.Numerals.{add-one}

@@ -1,4 +1,6 @@
 // The writer of P4 stacks: the plain form.
+#![tactic(auto)]
+
 ghost use Rattle.rules.specs.P4.{sizes, plain_header, slices, WritePromise};
 ghost use Rattle.stack.specs.Sides.{Side};
 ghost use Rattle.text.specs.Put.{Put};

@@ -1,4 +1,6 @@
 // Decimal digits; bytes and decimal numbers written into a lent buffer, one after another: each `put` answers the place behind what it wrote.
+#![tactic(auto)]
+
 ghost use Rattle.std.specs.Prelude.{◌≡◌};
 ghost use Rattle.rules.specs.Decimals.{is_digit, figure, decimal, signed_decimal};
 ghost use Rattle.text.specs.Put.{Room, Put};
