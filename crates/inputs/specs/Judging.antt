@@ -5,7 +5,7 @@ use Rattle.rules.specs.declared.Vector.{Vector}
 use Rattle.rules.specs.declared.Solid.{Solid}
 use Rattle.rules.specs.Vectors.{origin}
 use Rattle.rules.specs.Solids.{between, box, in_box, look}
-use Rattle.rules.specs.Asked.{Asked, ◌>>=◌, ◌>>◌}
+use Rattle.rules.specs.Asked.{Asked, ◌>>◌}
 use Rattle.rules.specs.Walk.{Stop, stop, ensure, Probe}
 use Rattle.rules.specs.Pick.{is_inside, placing}
 use Rattle.laws.specs.Boxes.{look-inside}

@@ -1,4 +1,6 @@
 // The inputs are judged: refusals 1 to 4.
+#![tactic(auto)]
+
 ghost use Rattle.std.specs.Prelude.{◌≡◌, ◌≤◌};
 ghost use Rattle.rules.specs.Walk.{sign, signs};
 ghost use Rattle.laws.specs.Bounds.{Bounded};

@@ -1,4 +1,6 @@
 // The start: p, q and the axes, or the corners.
+#![tactic(auto)]
+
 ghost use Rattle.std.specs.Prelude.{◌≡◌, ◌<◌};
 ghost use Rattle.rules.specs.Walk.{unit};
 ghost use Rattle.laws.specs.Bounds.{Bounded};

@@ -1,4 +1,6 @@
 // The walk: rounds and steps until no pair falls.
+#![tactic(auto)]
+
 ghost use Rattle.std.specs.Prelude.{◌≡◌, length};
 ghost use Rattle.rules.specs.Walk.{remaining};
 ghost use Rattle.laws.specs.Bounds.{Bounded};

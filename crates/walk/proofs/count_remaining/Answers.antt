@@ -6,12 +6,10 @@ use Prim.Native.Nat.{◌+◌, ◌≤◌}
 use native.Mathlib.Omega.{arith}
 use lib.ListN.{length}
 use mir.Val.{bool_byte}
-use borrow.Author.Rules.{rules}
 use Rattle.rules.specs.declared.Levels.{Levels}
 use Rattle.rules.specs.Walk.{axis0, axis1, axis2, keep, only, remaining}
 use Rattle.laws.specs.Flags.{at_most_one, one_more}
-use Rattle.walk.proofs.count_remaining.Statement.{statement}
-use Rattle.walk.proofs.count_remaining.Tie as tie
+use Rattle.walk.proofs.count_remaining.Goals as goal
 
 counted : (v : Levels) → bool_byte (not v.x) + bool_byte (not v.y) + bool_byte (not v.z) ≡ length (remaining v)
 unfolding remaining only
@@ -25,15 +23,11 @@ module _ (v : Levels) where
   all_three : bool_byte (not v.x) + bool_byte (not v.y) + bool_byte (not v.z) ≤ 3
   all_three = omega (arith, x-and-y, at_most_one (not v.z))
 
-two-fit : tie.Need-overflow-add-result
-two-fit c = omega (arith, x-and-y c.before.before.before.args.level)
+pub overflow_add-result : goal.overflow_add-result
+overflow_add-result c = omega (arith, x-and-y c.args.level)
 
-three-fit : tie.Need-overflow-add-result-2
-three-fit c = omega (arith, all_three c.before.before.before.args.level)
+pub overflow_add-result-2 : goal.overflow_add-result-2
+overflow_add-result-2 c = omega (arith, all_three c.args.level)
 
-pub count_remaining_spec : {M : Type 1} → statement M
-count_remaining_spec =
-    tie.close
-    (tie.spec
-    (λ c. search rules) (λ c. search rules) (λ c. search rules)
-    two-fit three-fit (λ c. search counted))
+pub returns : goal.returns
+returns c = search counted
