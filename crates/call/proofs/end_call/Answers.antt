@@ -15,8 +15,7 @@ use Rattle.call.specs.declared.Call.TheVariants.{Pick, Touch, Check, Walk}
 use Rattle.call.specs.declared.Outcome.TheVariants.{Ended}
 use Rattle.call.specs.Calls.{walk_end, end_of}
 use Rattle.call.specs.contracts.Call.{the_type}
-use Rattle.call.proofs.end_call.Statement.{statement}
-use Rattle.call.proofs.end_call.Tie as tie
+use Rattle.call.proofs.end_call.Goals as goal
 
 others-walk : (call : Call) (v : Scene) (bytes : List ℕ) (level : Levels) (n : ℕ) → OneOf (0 ∷ 1 ∷ 3 ∷ []) (tag_of the_type call) → walk_end v bytes level n ≡ end_of call v bytes level n
 others-walk (Pick p) v bytes level n k = refl
@@ -26,16 +25,9 @@ others-walk (Check p) v bytes level n (inr (inl k)) = absurd (omega (arith, k))
 others-walk (Check p) v bytes level n (inr (inr k)) = absurd (omega (arith, k))
 others-walk (Walk d) v bytes level n k = refl
 
-check-hands-back : tie.Need-returns
-check-hands-back c = rw c.before.call.given.1
+pub returns-in-Check : goal.returns-in-Check
+returns-in-Check c = rw c.in-Check.is
 
-no-check : tie.Need-returns-2
-no-check c =
-    let s = c.before.before.before.before in
-    ap Ended (is-answer-from _ c.walk-to-end.ensures.gives) ∙ others-walk s.args.call s.args.scene s.args.bytes.now s.args.level s.args.looks c.before.match.keys2
-
-pub end_call_spec : {M : Type 1} → statement M
-end_call_spec =
-    tie.close
-    (tie.spec
-    (λ c. search rules) (λ c κs. search rules) check-hands-back no-check)
+pub returns-in_default : goal.returns-in_default
+returns-in_default c =
+    ap Ended (is-answer-from _ c.walk_to_end.ensures.gives) ∙ others-walk c.args.call-1 c.args.scene c.args.bytes.now c.args.level c.args.looks c.in-Check|in_default.keys2

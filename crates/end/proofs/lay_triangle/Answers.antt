@@ -1,0 +1,7 @@
+-- `end::lay_triangle` meets its contract: vector by vector.
+use borrow.Author.Rules.{rules}
+use Rattle.rules.specs.Walk.{triangle}
+use Rattle.end.proofs.lay_triangle.Goals as goal
+
+pub returns : goal.returns
+returns c = λ i. triangle (c.lay-a.ensures i) (c.lay-b.ensures i) (c.lay-c.ensures i)

@@ -1,0 +1,7 @@
+-- `firm::firm_stack` meets its promise: the answer on the solid that it is.
+use borrow.Author.Rules.{rules}
+use Rattle.firm.proofs.Answers.{of-stack}
+use Rattle.firm.proofs.firm_stack.Goals as goal
+
+pub returns : goal.returns
+returns c = search of-stack
