@@ -1,6 +1,9 @@
 // Document 01's listed cases of P4 stacks, its rules at their edges, and document 02's comments that touch. `stdout` was written from their words.
-use libc::STDOUT_FILENO;
+#![tactic(auto)]
+
 use rules::Stack;
+
+const STDOUT_FILENO: i32 = 1;
 
 // The answer, and the lent bytes afterwards.
 fn try_read(input: &[u8], lent: &mut [u8]) {
@@ -95,7 +98,7 @@ fn touching_cases() {
         P4#a\n#b\n\t3 2\n\xa0\x40|\
         P4\n3 2##\n\xa0\x40|\
         P4\n3#2\n2#\n\xa0\x40|\
-        P4\n3 2#h\n\xa0\x40_p4#z\n3#\n2#\n\x20\xc0|",
+        P4\n3 2#h\n\xa0\x40P4#z\n3#\n2#\n\x20\xc0|",
     );
 }
 
@@ -119,14 +122,14 @@ fn touching_edges() {
 // A second image, and a buffer too short.
 fn image_cases() {
     read_each(
-        b"P4 1 1 \xff_p4\n01 #\n1\n\x7f|\
-        P4 1 1 \xff_p5 1 1 \xff|\
-        P4 1 1 \xff_p4 1 2 \xff\xff|\
-        P4 1 1 \xff_p4 2 0 \xff|\
-        P4 1 1 \xff_p4 1 1 |\
+        b"P4 1 1 \xffP4\n01 #\n1\n\x7f|\
+        P4 1 1 \xffP5 1 1 \xff|\
+        P4 1 1 \xffP4 1 2 \xff\xff|\
+        P4 1 1 \xffP4 2 0 \xff|\
+        P4 1 1 \xffP4 1 1 |\
         P4 1 4 \xff\xff\xff\xff|\
         P4 1 5 \xff\xff\xff\xff\xff|\
-        P4 1 5 \xff\xff\xff\xff\xff_p4 1 5 \xff|",
+        P4 1 5 \xff\xff\xff\xff\xffP4 1 5 \xff|",
     );
 }
 

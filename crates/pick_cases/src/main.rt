@@ -4,6 +4,8 @@
 // They do not give the looks 59, 178, 95, 35, 29 and 71, the steps to (2,3,9) and (5,2,1), the normal at (5,6,7), nor
 // the lines of reach 1 and 2, of level faces (W6 as 2026-01 changes it) and of small stacks. Those are the second
 // program's, which was written apart from this library and is held to each of them (tests/second/listed.rs, checks.rs).
+#![tactic(auto)]
+
 use rules::{Pick, Stack, Vector, Wedge};
 
 fn put_number(n: u32) {

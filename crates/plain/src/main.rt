@@ -1,9 +1,14 @@
 // Reads a P4 stack from standard input and writes its plain form, or its refusal, to standard output.
 // It reads at most 65,536 bytes; no stack in them has more rows or a longer plain form than that.
+#![tactic(auto)]
+
 ghost use Rattle.io.specs.Counts.{IsPrefixLen};
 
-use libc::{STDIN_FILENO, STDOUT_FILENO};
 use rules::{Reading, Writing};
+
+const STDIN_FILENO: i32 = 0;
+
+const STDOUT_FILENO: i32 = 1;
 
 // The plain form of the stack in src, at the front of out: how many bytes. Nothing, and the refusal printed, if there is none.
 fn make_plain(src: &[u8], rows: &mut [u8], out: &mut [u8]) -> usize

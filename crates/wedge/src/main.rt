@@ -1,5 +1,9 @@
 // The wedge program: a session on standard input, its replies on standard output.
-use libc::{STDIN_FILENO, STDOUT_FILENO};
+#![tactic(auto)]
+
+const STDIN_FILENO: i32 = 0;
+
+const STDOUT_FILENO: i32 = 1;
 
 fn main() {
     // At most 65,536 bytes are read; what follows is left to whoever reads next.
