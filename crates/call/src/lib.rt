@@ -1,4 +1,6 @@
 // One call: a pick, a quick touch, a start check or a walk from a ready start. What is refused, in order, and the walk.
+#![tactic(auto)]
+
 ghost use Rattle.std.specs.Prelude.{◌≡◌, ◌≤◌};
 ghost use Rattle.laws.specs.Tally.{Countable};
 ghost use Rattle.falls.specs.Scene.{probe_of, Ready};

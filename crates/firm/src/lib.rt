@@ -1,4 +1,6 @@
 // How firm the footing of a pick's answer is, on a wedge and on a stack.
+#![tactic(auto)]
+
 ghost use Rattle.std.specs.Prelude.{◌≡◌, true, ◌+◌, ◌≤◌, ◌-ℤ◌};
 ghost use Rattle.integers.specs.Sizes.{Within};
 ghost use Rattle.rules.specs.Solids.{look};

@@ -10,7 +10,6 @@ use Rattle.rules.specs.declared.Check.{Check}
 use Rattle.rules.specs.declared.Pick.{Pick}
 use Rattle.rules.specs.declared.Touch.{Touch}
 use Rattle.rules.specs.Vectors.{◌⊕◌}
-use Rattle.rules.specs.Solids.{look}
 use Rattle.rules.specs.Walk.{signs}
 use Rattle.rules.specs.Pick.{check, pick, answer, pick_of, WedgePromise, StackPromise}
 use Rattle.rules.specs.Touch.{touch, marked, touch_of, WedgeTouchPromise, StackTouchPromise}

@@ -1,4 +1,6 @@
 // The pick, the quick touch, the start check and the walk from a ready start, of a wedge and of a stack.
+#![tactic(auto)]
+
 ghost use Rattle.std.specs.Prelude.{◌≡◌};
 ghost use Rattle.rules.specs.Pick.{WedgePromise, StackPromise};
 ghost use Rattle.rules.specs.Touch.{marked, WedgeTouchPromise, StackTouchPromise};

@@ -1,5 +1,4 @@
 -- `call::answer` meets its contract: by how far it came, through the inputs, the start, or to its end.
-use borrow.Author.Rules.{rules}
 use Rattle.call.proofs.Answers.{granted, made}
 use Rattle.call.proofs.answer.Goals as goal
 

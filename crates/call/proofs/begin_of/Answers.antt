@@ -1,6 +1,5 @@
 -- `call::begin_of` meets its contract: call by call.
 use mathlib.Core.Path.{sym, ap}
-use borrow.Author.Rules.{rules}
 use Rattle.call.specs.Calls.{begin_of}
 use Rattle.call.proofs.begin_of.Goals as goal
 

@@ -1,5 +1,4 @@
 -- `call::height_of` meets its contract: solid by solid.
-use borrow.Author.Rules.{rules}
 use Rattle.integers.specs.Machine.{machine, typed, value}
 use Rattle.call.proofs.Numbers.{height-of-wedge}
 use Rattle.call.proofs.height_of.Goals as goal

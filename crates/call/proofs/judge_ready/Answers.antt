@@ -1,5 +1,4 @@
 -- `call::judge_ready` meets its contract: by whether the start is ready.
-use borrow.Author.Rules.{rules}
 use Rattle.call.proofs.Answers.{judging-ready}
 use Rattle.call.proofs.judge_ready.Goals as goal
 

@@ -1,5 +1,4 @@
 -- `call::make_call` meets its contract: the solid that is made of a solid's numbers is that solid.
-use borrow.Author.Rules.{rules}
 use Rattle.call.proofs.Answers.{made_again}
 use Rattle.call.proofs.make_call.Goals as goal
 

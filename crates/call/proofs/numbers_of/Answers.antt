@@ -1,5 +1,4 @@
 -- `call::numbers_of` meets its contract: solid by solid.
-use borrow.Author.Rules.{rules}
 use Rattle.integers.specs.Machine.{machine, typed, value}
 use Rattle.call.proofs.Numbers.{of-wedge, of-stack}
 use Rattle.call.proofs.numbers_of.Goals as goal

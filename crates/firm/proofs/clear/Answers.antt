@@ -1,5 +1,4 @@
 -- `firm::clear` meets its contract: by whether the start and then the apex are in the box, and by what they were found to be.
-use borrow.Author.Rules.{rules}
 use Rattle.firm.proofs.Clearing.{both-in-box, clearing}
 use Rattle.firm.proofs.clear.Goals as goal
 

@@ -1,5 +1,4 @@
 -- `firm::face` meets its contract: by the looks at the start and then at the apex, which lie in the box.
-use borrow.Author.Rules.{rules}
 use Rattle.firm.proofs.Clearing.{facing-start}
 use Rattle.firm.proofs.face.Goals as goal
 

@@ -1,5 +1,4 @@
 -- `firm::firm_from` meets its contract: by the start's refusals.
-use borrow.Author.Rules.{rules}
 use Rattle.firm.proofs.Standing.{standing-from, granted}
 use Rattle.firm.proofs.firm_from.Goals as goal
 

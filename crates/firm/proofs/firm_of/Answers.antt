@@ -1,5 +1,4 @@
 -- `firm::firm_of` meets its contract: by whether the pick was accepted.
-use borrow.Author.Rules.{rules}
 use Rattle.firm.proofs.Answers.{of-answer}
 use Rattle.firm.proofs.firm_of.Goals as goal
 

@@ -1,7 +1,6 @@
 -- `firm::firm_on` meets its contract: by the three tests before the answer. What they found makes the casts fit.
 use mathlib.Core.Path.{sym, ◌∙◌}
 use lib.Dec.{lit≤}
-use borrow.Author.Rules.{rules}
 use Rattle.inputs.specs.Ranges.{range, range-fits}
 use Rattle.firm.proofs.Answers.{on}
 use Rattle.firm.proofs.firm_on.Goals as goal

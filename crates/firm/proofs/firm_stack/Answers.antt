@@ -1,5 +1,4 @@
 -- `firm::firm_stack` meets its promise: the answer on the solid that it is.
-use borrow.Author.Rules.{rules}
 use Rattle.firm.proofs.Answers.{of-stack}
 use Rattle.firm.proofs.firm_stack.Goals as goal
 

@@ -1,6 +1,5 @@
 -- `firm::firm_under` meets its contract: by whether the answer can be measured.
 use mathlib.Core.Path.{sym, ◌∙◌}
-use borrow.Author.Rules.{rules}
 use Rattle.firm.proofs.Standing.{signs-small, under}
 use Rattle.firm.proofs.firm_under.Goals as goal
 

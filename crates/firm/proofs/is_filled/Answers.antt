@@ -1,5 +1,4 @@
 -- `firm::is_filled` meets its contract: by the look.
-use borrow.Author.Rules.{rules}
 use Rattle.firm.proofs.Clearing.{seen_as}
 use Rattle.firm.proofs.is_filled.Goals as goal
 

@@ -1,7 +1,6 @@
 -- `firm::start_under` meets its contract: part by part.
 use mathlib.Core.Path.{ap, ◌∙◌}
 use mir.Syntax.{w32}
-use borrow.Author.Rules.{rules}
 use Rattle.integers.specs.Machine.{machine, typed, value, back}
 use Rattle.rules.specs.Firm.{held, start_under}
 use Rattle.laws.specs.Parts.{vector-eq}

@@ -1,0 +1,12 @@
+-- `pick::pick_wedge` meets its promise: the call of a pick, of the solid that it is.
+use Rattle.rules.specs.Pick.{pick_of}
+use Rattle.pick.proofs.Answers.{made-read, ends, ends-in}
+use Rattle.pick.proofs.pick_wedge.Goals as goal
+
+pub as_pick-requires : goal.as_pick-requires
+as_pick-requires c = ends c.make_call.ensures.is
+
+pub returns : goal.returns
+unfolding pick_of
+returns c =
+    record { is = ends-in (made-read c.ranges.frame c.ranges.reach c.make_call.ensures).is c.as_pick.ensures }
