@@ -1,4 +1,6 @@
 // A pick's answer as the line that the session prints, and how many bytes that takes at most.
+#![tactic(auto)]
+
 ghost use Rattle.std.specs.Prelude.{pos};
 ghost use Rattle.rules.specs.Session.{word, three, counts, told, told_accepted, told_refused};
 ghost use Rattle.answer.specs.Wrote.{Space, Wrote};

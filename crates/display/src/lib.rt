@@ -1,4 +1,6 @@
 // The display normal: three whole numbers as three floats for the shader.
+#![tactic(auto)]
+
 ghost use Rattle.std.specs.Prelude.{◌≡◌, ◌&&◌, ◌*◌, ◌^◌, ◌≤◌, ◌<◌, nat_abs};
 ghost use Rattle.rules.specs.Display.{squares, largest, light, DisplayPromise};
 ghost use Rattle.display.specs.Parts.{in_range, Square, Sum, Small, Within, From, Sized, Size, Whole, Shown, Parts};

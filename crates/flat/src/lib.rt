@@ -1,4 +1,6 @@
 // The answers of the core as plain numbers for C, each flattened by a definition of `specs/Flat.antt`, and a ready start and a pick read back.
+#![tactic(auto)]
+
 ghost use Rattle.std.specs.Prelude.{◌≡◌};
 ghost use Rattle.flat.specs.Flat.{flat_pick, handed_pick, with_guess, flat_touch, mask_of, levels_of, flat_ready, ready_of, flat_check, flat_lean, flat_firm, flat_display, flat_reading, flat_writing};
 

@@ -1,4 +1,6 @@
 // A line of the session: from its bytes to what it asks.
+#![tactic(auto)]
+
 ghost use Rattle.std.specs.Prelude.{◌≡◌, ◌≤◌, ◌<◌, pos, length};
 ghost use Rattle.rules.specs.Session.{minus};
 ghost use Rattle.line.specs.Reading.{PartEnds, DigitsRead, NumberRead, signed_of, FieldAt, ThreeAt, Asking, LineRead};

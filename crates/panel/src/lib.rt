@@ -1,4 +1,6 @@
-// The panel's C interface (include/ulgenzhir.h): thin over the core, each answer flattened (crate `flat`).
+// The panel's functions (include/ulgenzhir.h): thin over the core, each answer flattened (crate `flat`). `panel_c` exports them to C.
+#![tactic(auto)]
+
 ghost use Rattle.std.specs.Prelude.{◌≡◌};
 ghost use Rattle.rules.specs.Vectors.{vector};
 ghost use Rattle.panel.specs.Promises.{wedge, stack, PickedWedge, PickedStack, TouchedWedge, TouchedStack, CheckedWedge, CheckedStack, WalkedWedge, WalkedStack, KnewLean, FirmedWedge, FirmedStack, ReadP4, WroteP4, Displayed};
@@ -40,8 +42,7 @@ fn point(x: i32, y: i32, z: i32) -> Vector
 
 // ---- the interface
 
-#[unsafe(no_mangle)]
-pub extern "C" fn ulgenzhir_pick_wedge(
+pub fn ulgenzhir_pick_wedge(
     a: i32,
     b: i32,
     c: i32,
@@ -59,8 +60,7 @@ pub extern "C" fn ulgenzhir_pick_wedge(
     flat::flatten_pick(pick::pick_wedge(w, p, frame, reach))
 }
 
-#[unsafe(no_mangle)]
-pub extern "C" fn ulgenzhir_pick_stack(
+pub fn ulgenzhir_pick_stack(
     width: i32,
     height: i32,
     depth: i32,
@@ -78,8 +78,7 @@ pub extern "C" fn ulgenzhir_pick_stack(
     flat::flatten_pick(pick::pick_stack(k, bytes, p, frame, reach))
 }
 
-#[unsafe(no_mangle)]
-pub extern "C" fn ulgenzhir_touch_wedge(
+pub fn ulgenzhir_touch_wedge(
     a: i32,
     b: i32,
     c: i32,
@@ -97,8 +96,7 @@ pub extern "C" fn ulgenzhir_touch_wedge(
     flat::flatten_touch(pick::touch_wedge(w, p, frame, reach))
 }
 
-#[unsafe(no_mangle)]
-pub extern "C" fn ulgenzhir_touch_stack(
+pub fn ulgenzhir_touch_stack(
     width: i32,
     height: i32,
     depth: i32,
@@ -116,8 +114,7 @@ pub extern "C" fn ulgenzhir_touch_stack(
     flat::flatten_touch(pick::touch_stack(k, bytes, p, frame, reach))
 }
 
-#[unsafe(no_mangle)]
-pub extern "C" fn ulgenzhir_check_wedge(
+pub fn ulgenzhir_check_wedge(
     a: i32,
     b: i32,
     c: i32,
@@ -135,8 +132,7 @@ pub extern "C" fn ulgenzhir_check_wedge(
     flat::flatten_check(pick::check_wedge(w, p, frame, reach))
 }
 
-#[unsafe(no_mangle)]
-pub extern "C" fn ulgenzhir_check_stack(
+pub fn ulgenzhir_check_stack(
     width: i32,
     height: i32,
     depth: i32,
@@ -154,8 +150,7 @@ pub extern "C" fn ulgenzhir_check_stack(
     flat::flatten_check(pick::check_stack(k, bytes, p, frame, reach))
 }
 
-#[unsafe(no_mangle)]
-pub extern "C" fn ulgenzhir_walk_wedge(
+pub fn ulgenzhir_walk_wedge(
     a: i32,
     b: i32,
     c: i32,
@@ -171,8 +166,7 @@ pub extern "C" fn ulgenzhir_walk_wedge(
     flat::flatten_pick(pick::walk_wedge(w, d, frame, reach))
 }
 
-#[unsafe(no_mangle)]
-pub extern "C" fn ulgenzhir_walk_stack(
+pub fn ulgenzhir_walk_stack(
     width: i32,
     height: i32,
     depth: i32,
@@ -188,16 +182,14 @@ pub extern "C" fn ulgenzhir_walk_stack(
     flat::flatten_pick(pick::walk_stack(k, bytes, d, frame, reach))
 }
 
-#[unsafe(no_mangle)]
-pub extern "C" fn ulgenzhir_known_lean(pick: FlatPick, reach: i32) -> FlatLean
+pub fn ulgenzhir_known_lean(pick: FlatPick, reach: i32) -> FlatLean
     ensures { KnewLean pick reach result }
 {
     let answer = flat::handed_pick(pick);
     flat::flatten_lean(lean::known_lean(answer, reach))
 }
 
-#[unsafe(no_mangle)]
-pub extern "C" fn ulgenzhir_firm_wedge(
+pub fn ulgenzhir_firm_wedge(
     a: i32,
     b: i32,
     c: i32,
@@ -213,8 +205,7 @@ pub extern "C" fn ulgenzhir_firm_wedge(
     flat::flatten_firm(firm::firm_wedge(w, answer, frame, reach))
 }
 
-#[unsafe(no_mangle)]
-pub extern "C" fn ulgenzhir_firm_stack(
+pub fn ulgenzhir_firm_stack(
     width: i32,
     height: i32,
     depth: i32,
@@ -230,15 +221,13 @@ pub extern "C" fn ulgenzhir_firm_stack(
     flat::flatten_firm(firm::firm_stack(k, bytes, answer, frame, reach))
 }
 
-#[unsafe(no_mangle)]
-pub extern "C" fn ulgenzhir_read_p4(src: &[u8], rows: &mut [u8]) -> FlatReading
+pub fn ulgenzhir_read_p4(src: &[u8], rows: &mut [u8]) -> FlatReading
     ensures { ReadP4 src.now rows.old rows.new result }
 {
     flat::flatten_reading(p4_read::read(src, rows))
 }
 
-#[unsafe(no_mangle)]
-pub extern "C" fn ulgenzhir_write_p4(
+pub fn ulgenzhir_write_p4(
     width: i32,
     height: i32,
     depth: i32,
@@ -251,8 +240,7 @@ pub extern "C" fn ulgenzhir_write_p4(
     flat::flatten_writing(p4_write::write(k, bytes, out))
 }
 
-#[unsafe(no_mangle)]
-pub extern "C" fn ulgenzhir_display(nx: i32, ny: i32, nz: i32) -> FlatDisplay
+pub fn ulgenzhir_display(nx: i32, ny: i32, nz: i32) -> FlatDisplay
     ensures { Displayed nx ny nz result }
 {
     flat::flatten_display(display::display_normal(nx, ny, nz))

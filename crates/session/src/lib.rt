@@ -1,4 +1,6 @@
 // The wedge session: from the bytes that are read to the bytes that are printed.
+#![tactic(auto)]
+
 ghost use Rattle.std.specs.Prelude.{◌*◌, length};
 ghost use Rattle.rules.specs.Session.{lines, replies};
 ghost use Rattle.answer.specs.Wrote.{Wrote};

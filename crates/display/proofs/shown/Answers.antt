@@ -1,0 +1,13 @@
+-- `shown` divides by 32768 or by its opposite, which gives the sign.
+use Rattle.display.proofs.Answers.{sized-back}
+use Rattle.display.proofs.Components.{shown-below, shown-from-zero}
+use Rattle.display.proofs.shown.Goals as goal
+
+pub size_over-requires : goal.size_over-requires
+size_over-requires c = search sized-back
+
+pub returns-then-n-lt0 : goal.returns-then-n-lt0
+returns-then-n-lt0 c = search shown-below
+
+pub returns-else-n-lt0 : goal.returns-else-n-lt0
+returns-else-n-lt0 c = search shown-from-zero

@@ -1,0 +1,12 @@
+-- Each way out of `put_reply`: the answer to a question, or "B".
+use Rattle.session.proofs.Replies.{answer-space, replies-answer, replies-other}
+use Rattle.session.proofs.put_reply.Goals as goal
+
+pub put_answer-requires : goal.put_answer-requires
+put_answer-requires c = search answer-space
+
+pub returns-in-Asks : goal.returns-in-Asks
+returns-in-Asks c = search replies-answer
+
+pub returns-in-OtherForm : goal.returns-in-OtherForm
+returns-in-OtherForm c = search replies-other
