@@ -1,4 +1,6 @@
 // Whether a unit vector laid in, or minus it, falls.
+#![tactic(auto)]
+
 ghost use Rattle.std.specs.Prelude.{◌≡◌, ◌<◌};
 ghost use Rattle.integers.specs.Sizes.{Within};
 ghost use Rattle.laws.specs.Frames.{Signs};

@@ -1,4 +1,6 @@
 // The end of a walk: its rounds, and what was found when no pair falls.
+#![tactic(auto)]
+
 ghost use Rattle.std.specs.Prelude.{◌≡◌};
 ghost use Rattle.rules.specs.Walk.{unless_level, levelled, normal, laid};
 ghost use Rattle.laws.specs.Triples.{All};

@@ -1,4 +1,6 @@
 // What faces the finger: p and q, and of a quick touch the corners.
+#![tactic(auto)]
+
 ghost use Rattle.std.specs.Prelude.{◌≡◌};
 ghost use Rattle.rules.specs.Vectors.{minus, lay};
 ghost use Rattle.laws.specs.Bounds.{Bounded};

@@ -1,1 +1,3 @@
+#![tactic(auto)]
+
 // Laws of the integers, all in specs/: no code.

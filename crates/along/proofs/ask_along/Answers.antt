@@ -1,15 +1,6 @@
 -- `along::ask_along` meets its contract. The loop's invariant is that of `falls::ask_falls`, for the point that is the apex with another part along the line's axis.
-use Prim.Native.Nat.{◌-◌}
-use native.Mathlib.Omega.{arith}
-use mir.Syntax.{w32}
-use mir.Val.{to_z}
-use borrow.Author.Rules.{rules}
 use Rattle.integers.specs.Machine.{machine, fits, value}
-use Rattle.rules.specs.Vectors.{◌⊖◌}
-use Rattle.rules.specs.Solids.{look}
-use Rattle.axis.specs.Axes.{axis_at, with_part}
-use Rattle.solid.specs.Grid.{ranks_of}
-use Rattle.falls.specs.Falls.{Falling}
+use Rattle.axis.specs.Axes.{axis_at}
 use Rattle.along.specs.Facts.{step-within, rise-within}
 use Rattle.falls.specs.Fits.{here-within, ranked-within}
 use Rattle.falls.specs.Powers.{falls-stopped, falls-fell, falls-kept}

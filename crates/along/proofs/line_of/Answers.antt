@@ -2,7 +2,6 @@
 use mathlib.Core.Path.{ap₂, ◌∙◌}
 use lib.IntN.{◌*ℤ◌}
 use mir.Syntax.{w32}
-use borrow.Author.Rules.{rules}
 use Rattle.integers.specs.Machine.{machine, fits, value, back}
 use Rattle.integers.specs.Sizes.{within-is}
 use Rattle.axis.specs.Axes.{axis_at}

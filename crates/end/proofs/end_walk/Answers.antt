@@ -1,5 +1,4 @@
 -- `end::end_walk` meets its contract: by whether the sizes of the normal add to more than the reach.
-use borrow.Author.Rules.{rules}
 use Rattle.end.proofs.Ends.{ends-fit}
 use Rattle.end.proofs.Ended.{ending}
 use Rattle.end.proofs.end_walk.Goals as goal

@@ -1,5 +1,4 @@
 -- `end::lay_triangle` meets its contract: vector by vector.
-use borrow.Author.Rules.{rules}
 use Rattle.rules.specs.Walk.{triangle}
 use Rattle.end.proofs.lay_triangle.Goals as goal
 

@@ -4,7 +4,6 @@ use mathlib.Core.Bool.{Bool}
 use lib.IntN.{ℤ}
 use mir.Syntax.{w32}
 use mir.Val.{to_z, of_z}
-use borrow.Author.Rules.{rules}
 use Rattle.integers.specs.Sizes.{Within}
 use Rattle.integers.specs.Machine.{machine, value, back}
 use Rattle.rules.specs.Walk.{unless_level, levelled}

@@ -1,5 +1,4 @@
 -- `end::normal_of` meets its contract: three cross products, added up.
-use borrow.Author.Rules.{rules}
 use Rattle.end.proofs.Ends.{normal-is, two-fit, three-fit}
 use Rattle.end.proofs.normal_of.Goals as goal
 

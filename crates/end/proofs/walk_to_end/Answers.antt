@@ -1,5 +1,4 @@
 -- `end::walk_to_end` meets its contract: by whether the rounds came to an end.
-use borrow.Author.Rules.{rules}
 use Rattle.end.proofs.Ended.{end-sound, walking}
 use Rattle.end.proofs.walk_to_end.Goals as goal
 

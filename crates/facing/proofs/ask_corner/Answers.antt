@@ -1,5 +1,4 @@
 -- `facing::ask_corner` meets its contract: by what was so far and by the look at the corner.
-use borrow.Author.Rules.{rules}
 use Rattle.falls.specs.Sizes.{apex-fits}
 use Rattle.facing.proofs.Corners.{counting, asking-corner}
 use Rattle.facing.proofs.ask_corner.Goals as goal

@@ -1,5 +1,4 @@
 -- `facing::ask_corners` meets its contract: corner by corner.
-use borrow.Author.Rules.{rules}
 use Rattle.facing.proofs.Corners.{three-corners}
 use Rattle.facing.proofs.ask_corners.Goals as goal
 

@@ -1,5 +1,4 @@
 -- `facing::face` meets its contract: by the two looks.
-use borrow.Author.Rules.{rules}
 use Rattle.facing.specs.Looks.{looking}
 use Rattle.facing.proofs.face.Goals as goal
 

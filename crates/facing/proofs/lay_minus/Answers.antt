@@ -1,5 +1,4 @@
 -- `facing::lay_minus` meets its contract: the opposite, laid in.
-use borrow.Author.Rules.{rules}
 use Rattle.facing.proofs.Units.{fitting}
 use Rattle.facing.proofs.lay_minus.Goals as goal
 
