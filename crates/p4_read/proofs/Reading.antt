@@ -4,7 +4,7 @@ use mathlib.Core.List.{List, ◌++◌}
 use Prim.Native.Nat.{ℕ, ◌*◌, ◌≤◌, ◌<◌}
 use native.Mathlib.Nat.{zero-add, mul-le-mul}
 use native.Mathlib.Omega.{arith}
-use lib.ListN.{length, take, drop}
+use lib.ListN.{length, drop}
 use lib.Seq.{sets, sets-eq}
 use lib.Dec.{leb}
 use borrow.Author.Tests.{le-leb, lt-leb}
@@ -21,7 +21,13 @@ use Rattle.p4_header.specs.declared.HeaderRead.TheVariants.{Sizes, NoSizes}
 use Rattle.p4_header.specs.Reads.{judged_header, HeaderIs}
 use Rattle.p4_read.specs.declared.DepthRead.{DepthRead}
 use Rattle.p4_read.specs.declared.DepthRead.TheVariants.{Depth, NoDepth}
-use Rattle.p4_read.specs.Images.{rows_at, judged_depth, depth_of, Places, ImagesAre, StoreRoom, FirstSizes}
+use Rattle.p4_read.specs.Images.{depth_read, rows_read, ImagesAre, StoreRoom, FirstSizes}
+use Rattle.p4_read.proofs.Storing.{read_good}
+
+-- what is judged to be refused is wrong
+read_wrong : {n p : ℕ} (x : Judged (ℕ × List ℕ)) → NoDepth n p ≡ depth_read x → x ≡ wrong n p
+read_wrong (good f) e = let z : ◌≡◌ {A = ℕ} 0 1 = cc in absurd (omega arith)
+read_wrong {n} {p} (wrong m q) e = let a : m ≡ n = cc in let b : q ≡ p = cc in λ j. wrong (a j) (b j)
 
 -- ---- what is read is refused, or stored
 module _ {s out : List ℕ} where
@@ -50,17 +56,17 @@ module _ {s : List ℕ} {w h : ℕ} (F : FirstSizes s w h) where
   contents-is = on _ F.is
 
   -- ---- the images
-  module _ {places : List ℕ} {r : DepthRead} (I : ImagesAre w h s places r) where
+  module _ {r : DepthRead} (I : ImagesAre w h s r) where
     pub images-refused : {n p : ℕ} (out : List ℕ) → r ≡ NoDepth n p → ReadPromise s out out (Unread n p)
     unfolding reading
-    images-refused out e = promise-wrong (off _ (contents-is ∙ off _ (sym I.is ∙ ap (judged_depth w h s places) e)))
+    images-refused out e = promise-wrong (off _ (contents-is ∙ off _ (read_wrong (images_at 256 w h s 0) (sym e ∙ I.is))))
 
     module _ {d c : ℕ} (e : r ≡ Depth d) (C : SliceBytes w h c) where
       abbrev all : List ℕ
-      all = rows_at w h s (take d places)
+      all = rows_read (images_at 256 w h s 0)
 
       images : images_at 256 w h s 0 ≡ good (d, all)
-      images = sym I.is ∙ ap (judged_depth w h s places) e
+      images = read_good (images_at 256 w h s 0) (sym e ∙ I.is)
 
       judged : (out : List ℕ) → reading s (length out) ≡ (judge (leb (d * c) (length out)) 27 (d * c) >>= λ _. good (record { stack = sizes w h d; bytes = all }))
       unfolding reading stack_bytes
@@ -68,23 +74,20 @@ module _ {s : List ℕ} {w h : ℕ} (F : FirstSizes s w h) where
           on _ (contents-is ∙ on _ images)
           ∙ ap (λ (x : ℕ). judge (leb (d * x) (length out)) 27 (d * x) >>= λ _. good (record { stack = sizes w h d; bytes = all })) (sym C.is)
 
-      kept : Places w h s places d
-      kept = rw (ap depth_of e) at I.kept
+      pub depth-few : d ≤ 256
+      depth-few = (counted w h first-sides.wide.some s 256 0 images).few
 
       pub stack-small : d * c ≤ 2097152
-      stack-small = let x : d * c ≤ 256 * 8192 = mul-le-mul kept.few C.small in omega arith
-
-      pub depth-few : d ≤ 256
-      depth-few = kept.few
+      stack-small = let x : d * c ≤ 256 * 8192 = mul-le-mul depth-few C.small in omega arith
 
       pub stack-short : {out : List ℕ} → length out < d * c → ReadPromise s out out (Unread 27 (d * c))
       stack-short {out} l = promise-wrong (judged out ∙ fail 27 (d * c) _ (lt-leb (d * c) (length out) l))
 
       module _ {out : List ℕ} (l : d * c ≤ length out) where
-        pub store-room : StoreRoom w h s places d out
-        store-room = let x = ap (λ (y : ℕ). d * y) C.is in record { sides = first-sides; source = kept; target = omega arith }
+        pub store-room : StoreRoom w h s d out
+        store-room = let x = ap (λ (y : ℕ). d * y) C.is in record { sides = first-sides; images = sym e ∙ I.is; target = omega arith }
 
-        pub stack-stored : {after : List ℕ} {k : Stack} → after ≡ sets out 0 (rows_at w h s (take d places)) → k ≡ sizes w h d → ReadPromise s out after (Read k)
+        pub stack-stored : {after : List ℕ} {k : Stack} → after ≡ sets out 0 all → k ≡ sizes w h d → ReadPromise s out after (Read k)
         stack-stored a b =
             let long = (counted w h first-sides.wide.some s 256 0 images).bytes in
             let x = ap (λ (y : ℕ). d * y) C.is in

@@ -1,88 +1,133 @@
--- The loop that stores the rows: those of the places left, stored behind the others, give the whole.
+-- The loop that stores the rows: those of the images left, stored behind the others, give the whole. All images were judged, so none is refused.
 use mathlib.Core.Path.{◌≡◌, refl, sym, ap, ◌∙◌}
-use mathlib.Core.List.{List}
+use mathlib.Core.List.{List, [], ◌∷◌}
 use Prim.Native.Nat.{ℕ, suc, ◌+◌, ◌-◌, ◌*◌, ◌≤◌, ◌<◌}
 use native.Mathlib.Nat.{zero-mul, suc-mul, sub-zero, mul-le-mul_right}
 use native.Mathlib.Numerals.{add-one}
 use native.Mathlib.Omega.{arith}
-use lib.ListN.{length, get_or, take, drop, length-drop}
+use lib.ListN.{length, drop, length-drop}
 use lib.Seq.{sets}
-use Rattle.rules.specs.Solids.{row_bytes, slice_bytes}
-use Rattle.rules.specs.P4.{rows}
+use Rattle.rules.specs.Solids.{slice_bytes}
+use Rattle.rules.specs.P4.{Judged, good, wrong, ◌>>=◌, rows, images_at}
 use Rattle.stack.specs.Bytes.{SliceBytes}
-use Rattle.text.specs.Places.{drop_here}
 use Rattle.text.specs.Puts.{sets-append}
+use Rattle.p4_laws.specs.Judging.{on, off, made}
 use Rattle.p4_laws.specs.Rows.{length-rows}
+use Rattle.p4_laws.specs.Images.{followed, images-end, counted}
 use Rattle.p4_rows.specs.Copies.{CopyRoom}
-use Rattle.p4_read.specs.Images.{rows_at, StoreRoom}
+use Rattle.p4_header.specs.declared.PlaceRead.{PlaceRead}
+use Rattle.p4_header.specs.declared.PlaceRead.TheVariants.{At, NotAt}
+use Rattle.p4_header.specs.Reads.{judged_place}
+use Rattle.p4_read.specs.declared.DepthRead.TheVariants.{Depth}
+use Rattle.p4_read.specs.Images.{ImageIs, ImageRange, depth_read, rows_read, StoreRoom}
+use Rattle.p4_read.proofs.Keeping.{rows_in, images-next}
 
-pub record Storing (w h : ℕ) (s places : List ℕ) (depth : ℕ) (first out : List ℕ) (o z : ℕ) : Type 0 where
+-- what is judged to be so many images is good
+pub read_good : {d : ℕ} (x : Judged (ℕ × List ℕ)) → Depth d ≡ depth_read x → x ≡ good (d, rows_read x)
+read_good (good (k, l)) e = let q : k ≡ _ = cc in ap (λ (n : ℕ). good (n, l)) q
+read_good (wrong n p) e = let z : ◌≡◌ {A = ℕ} 0 1 = cc in absurd (omega arith)
+
+abbrev many : Judged (ℕ × List ℕ) → ℕ
+many (good f) = f.0
+many (wrong n p) = 0
+
+nothing : (l : List ℕ) → length l ≡ 0 → l ≡ []
+nothing [] e = refl
+nothing (b ∷ l) e = absurd (omega arith)
+
+pub record Storing (w h : ℕ) (s : List ℕ) (depth : ℕ) (first out : List ℕ) (at o z : ℕ) : Type 0 where
   pub same : length out ≡ length first
+  pub inside : at ≤ length s
   pub count : z ≤ depth
   pub reached : o ≡ z * slice_bytes w h
-  pub rest : sets out o (rows_at w h s (take (depth - z) (drop z places))) ≡ sets first 0 (rows_at w h s (take depth places))
+  pub left : List ℕ
+  pub follow : images_at (256 - z) w h s at ≡ good (depth - z, left)
+  pub rest : sets out o left ≡ sets first 0 (rows_read (images_at 256 w h s 0))
 
-pub storing-start : (w h : ℕ) (s places : List ℕ) (depth : ℕ) (out : List ℕ) → Storing w h s places depth out out 0 0
-storing-start w h s places depth out = record {
-  same = refl;
-  count = omega arith;
-  reached = sym (zero-mul (slice_bytes w h));
-  rest = ap (λ (k : ℕ). sets out 0 (rows_at w h s (take k places))) (sub-zero depth);
-}
+module _ {w h : ℕ} {s : List ℕ} {depth : ℕ} {first : List ℕ} (R : StoreRoom w h s depth first) where
+  depth_few : depth ≤ 256
+  depth_few = (counted w h R.sides.wide.some s 256 0 (read_good (images_at 256 w h s 0) R.images)).few
 
-module _ {w h : ℕ} {s places : List ℕ} {depth : ℕ} {first out : List ℕ} {o z : ℕ} (S : Storing w h s places depth first out o z) where
-  pub storing-end : depth ≤ z → out ≡ sets first 0 (rows_at w h s (take depth places))
-  unfolding rows_at
-  storing-end l = let k : 0 ≡ depth - z = omega arith in ap (λ (x : ℕ). sets out o (rows_at w h s (take x (drop z places)))) k ∙ S.rest
+  pub storing-start : Storing w h s depth first first 0 0 0
+  storing-start = record {
+    same = refl;
+    inside = omega arith;
+    count = omega arith;
+    reached = sym (zero-mul (slice_bytes w h));
+    left = rows_read (images_at 256 w h s 0);
+    follow = read_good (images_at 256 w h s 0) R.images ∙ ap (λ (n : ℕ). good (n, rows_read (images_at 256 w h s 0))) (sym (sub-zero depth));
+    rest = refl;
+  }
 
-  module _ (R : StoreRoom w h s places depth first) (l : z < depth) where
-    -- the slice lies inside the buffer
-    slice-room : o + slice_bytes w h ≤ length first
-    slice-room =
-        let a = S.reached in
-        let b = suc-mul z (slice_bytes w h) in
-        let c : suc z * slice_bytes w h ≤ depth * slice_bytes w h = mul-le-mul_right (slice_bytes w h) l in
-        let d = R.target in
-        omega arith
+  module _ {out : List ℕ} {at o z : ℕ} (S : Storing w h s depth first out at o z) where
+    pub storing-range : ImageRange s at w h
+    storing-range = record { inside = S.inside; sides = R.sides }
 
-    -- and any image's rows, or fewer, can be copied there
-    pub storing-room : (y g : ℕ) → y < depth → g ≤ h → CopyRoom s (get_or places y 0) out o (slice_bytes w g)
-    unfolding slice_bytes
-    storing-room y g q f =
-        let x = slice-room in
-        let same = S.same in
-        let u = R.source.inside y q in
-        let v = mul-le-mul_right (row_bytes w) f in
-        record { source = omega arith; target = omega arith }
+    pub storing-end : depth ≤ z → out ≡ sets first 0 (rows_read (images_at 256 w h s 0))
+    storing-end l =
+        let none : depth - z ≡ 0 = omega arith in
+        let n = (counted w h R.sides.wide.some s (256 - z) at S.follow).bytes in
+        let k = ap (λ (x : ℕ). x * slice_bytes w h) none in
+        let m = zero-mul (slice_bytes w h) in
+        ap (sets out o) (sym (nothing S.left (omega arith))) ∙ S.rest
 
-    module _ {c : ℕ} (C : SliceBytes w h c) where
-      pub storing-fits : o + c ≤ length out
-      storing-fits = let x = slice-room in let y = S.same in let e = C.is in omega arith
+    module _ (l : z < depth) where
+      -- the slice lies inside the buffer
+      slice-room : o + slice_bytes w h ≤ length first
+      slice-room =
+          let a = S.reached in
+          let b = suc-mul z (slice_bytes w h) in
+          let c : suc z * slice_bytes w h ≤ depth * slice_bytes w h = mul-le-mul_right (slice_bytes w h) l in
+          let d = R.target in
+          omega arith
 
-      pub storing-next : {after : List ℕ} → length after ≡ length out → after ≡ sets out o (rows h w (drop (get_or places z 0) s))
-          → Storing w h s places depth first after (o + c) (z + 1)
-      unfolding rows_at slice_bytes
-      storing-next {after} m e =
-          let a = S.same in
-          let b = S.reached in
-          let size = C.is in
-          let few = R.source.few in
-          let many = R.source.many in
-          let u = R.source.inside z l in
-          let f = suc-mul z (slice_bytes w h) in
-          let k = ap (λ (x : ℕ). x * slice_bytes w h) (add-one z) in
-          let v : depth - z ≡ suc (depth - (z + 1)) = omega arith in
-          let these = rows h w (drop (get_or places z 0) s) in
-          let others = rows_at w h s (take (depth - (z + 1)) (drop (z + 1) places)) in
-          let long : length these ≡ slice_bytes w h = length-rows w R.sides.wide.some h (drop (get_or places z 0) s) (simp length-drop (omega arith)) in
-          record {
-            same = m ∙ a;
-            count = omega arith;
-            reached = omega arith;
-            rest =
-                (λ j. sets (e j) (o + (size ∙ sym long) j) others)
-                ∙ sym (sets-append out o these others)
-                ∙ ap (λ (x : List ℕ). sets out o (rows_at w h s (take (suc (depth - (z + 1))) x))) (sym (drop_here places z (omega arith)))
-                ∙ ap (λ (x : ℕ). sets out o (rows_at w h s (take x (drop z places)))) (sym v)
-                ∙ S.rest;
-          }
+      -- and the input goes on
+      goes-on : at ≡ length s → ⊥
+      goes-on e = let x = ap many (sym (images-end w h s at (256 - z) e) ∙ S.follow) in omega arith
+
+      module _ {f : PlaceRead} (F : ImageIs w h s at f) where
+        next : (judged_place f >>= followed (256 - (z + 1)) w h s) ≡ good (depth - z, S.left)
+        next = let few = depth_few in sym (images-next (omega arith) goes-on F) ∙ S.follow
+
+        pub storing-not : {n p : ℕ} → f ≡ NotAt n p → ⊥
+        storing-not e = let x = sym (off _ (ap judged_place e)) ∙ next in let z : ◌≡◌ {A = ℕ} 0 1 = cc in omega arith
+
+        module _ {i : ℕ} (e : f ≡ At i) {c : ℕ} (C : SliceBytes w h c) where
+          pub storing-room : CopyRoom s i out o (slice_bytes w h)
+          storing-room =
+              let x = slice-room in
+              let same = S.same in
+              let u = rows_in F e C in
+              let size = C.is in
+              record { source = omega arith; target = omega arith }
+
+          pub storing-fits : o + c ≤ length out
+          storing-fits = let x = slice-room in let y = S.same in let size = C.is in omega arith
+
+          pub storing-next : {after : List ℕ} → length after ≡ length out → after ≡ sets out o (rows h w (drop i s)) → Storing w h s depth first after (i + c) (o + c) (z + 1)
+          unfolding slice_bytes
+          storing-next {after} m q =
+              let a = S.same in
+              let b = S.reached in
+              let size = C.is in
+              let inside = rows_in F e C in
+              let g = suc-mul z (slice_bytes w h) in
+              let k = ap (λ (x : ℕ). x * slice_bytes w h) (add-one z) in
+              let these = rows h w (drop i s) in
+              let long : length these ≡ slice_bytes w h = length-rows w R.sides.wide.some h (drop i s) (simp length-drop (omega arith)) in
+              let r = made _ (images_at (256 - (z + 1)) w h s (i + slice_bytes w h)) (sym (on _ (ap judged_place e)) ∙ next) in
+              let fewer = ap many r.2 in
+              let v : r.0.0 ≡ depth - (z + 1) = omega arith in
+              record {
+                same = m ∙ a;
+                inside = inside;
+                count = omega arith;
+                reached = omega arith;
+                left = r.0.1;
+                follow = (λ j. images_at (256 - (z + 1)) w h s (i + size j)) ∙ r.1 ∙ ap (λ (n : ℕ). good (n, r.0.1)) v;
+                rest =
+                    (λ j. sets (q j) (o + (size ∙ sym long) j) r.0.1)
+                    ∙ sym (sets-append out o these r.0.1)
+                    ∙ ap (λ (x : Judged (ℕ × List ℕ)). sets out o (rows_read x)) r.2
+                    ∙ S.rest;
+              }

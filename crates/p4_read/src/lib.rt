@@ -1,11 +1,11 @@
 // The reader of P4 stacks.
 #![tactic(auto)]
 
-ghost use Rattle.std.specs.Prelude.{◌≡◌, ◌≤◌, length, take};
+ghost use Rattle.std.specs.Prelude.{◌≡◌, ◌≤◌};
 ghost use Rattle.std.proofs.lemmas.List.Edits.{sets};
-ghost use Rattle.rules.specs.P4.{sizes, ReadPromise};
+ghost use Rattle.rules.specs.P4.{images_at, sizes, ReadPromise};
 ghost use Rattle.stack.specs.Bytes.{SliceSides};
-ghost use Rattle.p4_read.specs.Images.{ImageIs, ImageRange, ImagesAre, StoreRoom, FirstSizes, rows_at};
+ghost use Rattle.p4_read.specs.Images.{ImageIs, ImageRange, ImagesAre, StoreRoom, FirstSizes, rows_read};
 
 use p4_header::{HeaderRead, PlaceRead};
 use rules::{Reading, Stack};
@@ -52,10 +52,10 @@ enum DepthRead {
     NoDepth(u32, usize),
 }
 
-// Judges all images, each of which must have this size, and keeps the places of their rows.
-fn judge_images(src: &[u8], width: usize, height: usize, places: &mut [usize]) -> DepthRead
-    requires { (SliceSides width height) × (length places.old ≡ 256) }
-    ensures { ImagesAre width height src.now places.new result }
+// Judges all images, each of which must have this size.
+fn judge_images(src: &[u8], width: usize, height: usize) -> DepthRead
+    requires { SliceSides width height }
+    ensures { ImagesAre width height src.now result }
 {
     let size = stack::slice_bytes(width, height);
     let mut at = 0;
@@ -68,7 +68,6 @@ fn judge_images(src: &[u8], width: usize, height: usize, places: &mut [usize]) -
         match found {
             PlaceRead::NotAt(n, p) => return DepthRead::NoDepth(n, p),
             PlaceRead::At(i) => {
-                places[z] = i;
                 at = i + size;
                 z = z + 1;
             }
@@ -77,26 +76,28 @@ fn judge_images(src: &[u8], width: usize, height: usize, places: &mut [usize]) -
     DepthRead::Depth(z)
 }
 
-// Stores the rows of so many images, at the places kept, slice after slice at the front of out.
-fn store_images(
-    src: &[u8],
-    width: usize,
-    height: usize,
-    places: &[usize],
-    depth: usize,
-    out: &mut [u8],
-)
-    requires { StoreRoom width height src.now places.now depth out.old }
-    ensures { out.new ≡ sets out.old 0 (rows_at width height src.now (take depth places.now)) }
+// Stores the rows of all images, which were judged and are so many, slice after slice at the front of out.
+// The places of their rows are found anew: a local array of them would be cleared by a call of C's memset,
+// which the library does without.
+fn store_images(src: &[u8], width: usize, height: usize, depth: usize, out: &mut [u8])
+    requires { StoreRoom width height src.now depth out.old }
+    ensures { out.new ≡ sets out.old 0 (rows_read (images_at 256 width height src.now 0)) }
 {
     let size = stack::slice_bytes(width, height);
+    let mut from = 0;
     let mut o = 0;
     let mut z = 0;
     while z < depth {
-        let from = places[z];
-        p4_rows::copy_rows(src, from, out, o, width, height);
-        o = o + size;
-        z = z + 1;
+        let found = find_rows(src, from, width, height);
+        match found {
+            PlaceRead::NotAt(_, _) => unreachable!(),
+            PlaceRead::At(i) => {
+                p4_rows::copy_rows(src, i, out, o, width, height);
+                from = i + size;
+                o = o + size;
+                z = z + 1;
+            }
+        }
     }
 }
 
@@ -106,16 +107,14 @@ fn read_images(src: &[u8], width: usize, height: usize, out: &mut [u8]) -> Readi
     requires { FirstSizes src.now width height }
     ensures { ReadPromise src.now out.old out.new result }
 {
-    // Zeros would be filled in by a call of C's memset, which the library does without.
-    let mut places = [src.len(); 256];
-    let judged = judge_images(src, width, height, &mut places);
+    let judged = judge_images(src, width, height);
     match judged {
         DepthRead::NoDepth(n, p) => Reading::Unread(n, p),
         DepthRead::Depth(depth) => {
             let size = stack::slice_bytes(width, height);
             let bytes = depth * size;
             if bytes <= out.len() {
-                store_images(src, width, height, &places, depth, out);
+                store_images(src, width, height, depth, out);
                 return Reading::Read(stack_of(width, height, depth));
             }
             Reading::Unread(27, bytes)

@@ -15,12 +15,6 @@ find_rows-found-requires c = search keeping-range
 pub returns-in-NotAt : goal.returns-in-NotAt
 returns-in-NotAt c = search keeping-not
 
--- an image that was found is not the 257th, so its place has room
-pub bounds-places-z : goal.bounds-places-z
-bounds-places-z c =
-    let inv = c.loop-at.invariant.kept in
-    omega (arith, c.if-z-eq256.false, inv.few, inv.many)
-
 -- the place behind the image's rows is a number, as they lie inside the input
 pub overflow_add-at : goal.overflow_add-at
 overflow_add-at c =

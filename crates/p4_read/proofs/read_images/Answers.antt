@@ -1,15 +1,12 @@
 -- `p4_read::read_images` meets its contract: by what the images are judged to, and by the lent buffer's length.
 use native.Mathlib.Omega.{arith}
-use lib.ListN.{length-replicate}
 use Rattle.p4_read.proofs.Reading.{first-sides, images-refused, depth-few, stack-small, store-room, stack-stored, stack-short}
 use Rattle.p4_read.proofs.read_images.Goals as goal
-
-ruleset places-lent = (first-sides, length-replicate)
 
 ruleset stack-sides = (first-sides, depth-few)
 
 pub judge_images-judged-requires : goal.judge_images-judged-requires
-judge_images-judged-requires c = search places-lent
+judge_images-judged-requires c = search first-sides
 
 pub slice_bytes-size-requires : goal.slice_bytes-size-requires
 slice_bytes-size-requires c = search first-sides

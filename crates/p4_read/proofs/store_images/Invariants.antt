@@ -4,7 +4,7 @@ use Rattle.p4_read.proofs.Storing.{Storing}
 use Rattle.p4_read.proofs.store_images.Given as goal
 
 abbrev pub invariant-loop-z : goal.invariant-loop-z
-invariant-loop-z l = Storing l.width l.height l.src l.places l.depth l.initial.out l.out l.o l.z
+invariant-loop-z l = Storing l.width l.height l.src l.depth l.initial.out l.out l.from l.o l.z
 
 abbrev pub decreases-loop-z : goal.decreases-loop-z
 decreases-loop-z l = l.depth - l.z
