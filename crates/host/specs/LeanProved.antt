@@ -18,8 +18,8 @@ use Rattle.rules.specs.Walk.{signs}
 use Rattle.rules.specs.TwoCalls.{walk_of}
 use Rattle.rules.specs.Firm.{footing, start_under, firm_of}
 use Rattle.laws.specs.Tests.{In}
-use Rattle.laws.specs.Theorems.{refused-number}
-use Rattle.laws.specs.TwoCalls.{walk-number}
+use Rattle.laws.proofs.Theorems.{refused-number}
+use Rattle.laws.proofs.TwoCalls.{walk-number}
 use Rattle.slope.specs.Demands.{Inputs, signs_of, powers_of, pick_at, OnSlope}
 use Rattle.planes.specs.Lean.{OnPlane, LeansBelow, last_of}
 use Rattle.planes.specs.LeanProved.{known-lean}

@@ -5,7 +5,7 @@ use Rattle.rules.specs.declared.Vector.{Vector}
 use Rattle.rules.specs.declared.Accepted.{Accepted as AcceptedPick}
 use Rattle.rules.specs.declared.Touch.{Touch}
 use Rattle.rules.specs.declared.Touch.TheVariants.{Guess, Refused as TouchRefused}
-use Rattle.laws.specs.Theorems.{touch-number}
+use Rattle.laws.proofs.Theorems.{touch-number}
 use Rattle.slope.specs.Demands.{Inputs, pick_at, OnSlope, of_wedge}
 use Rattle.slope.specs.Proved.{demand-3}
 use Rattle.slope.specs.Touches.{touch_at, OnLevel, TouchedAs}

@@ -33,10 +33,6 @@ pub mod Picks
 pub mod Touches
 pub mod Answers
 pub mod Handed
-pub mod Row
 pub mod Beyond
 pub mod Touched
 pub mod BothWays
-pub mod Stacks
-pub mod Theorems
-pub mod TwoCalls

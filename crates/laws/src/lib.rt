@@ -1,1 +1,3 @@
+#![tactic(auto)]
+
 // What holds of document 01's definitions on every solid, in specs/. There is no code here.

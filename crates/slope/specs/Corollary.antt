@@ -24,7 +24,7 @@ use Rattle.laws.specs.Levels.{above_zero}
 use Rattle.laws.specs.Generators.{Combines, generators, two-sides}
 use Rattle.laws.specs.Frames.{signs-are, lay-lay, lay-part-zero, same-frame}
 use Rattle.range.specs.Ranges.{between-yes}
-use Rattle.laws.specs.Theorems.{base-products}
+use Rattle.laws.proofs.Theorems.{base-products}
 use Rattle.slope.specs.Demands as Demands
 use Rattle.slope.specs.Demands.{Inputs, signs_of, powers_of, pick_at, remaining_of, of_wedge, AcceptedWith}
 use Rattle.slope.specs.Base as Base
