@@ -42,9 +42,9 @@ use Rattle.laws.proofs.Theorems.{guess-looks}
 use Rattle.slope.specs.Demands.{Inputs, signs_of, apex_of, probe_at, OnSlope, of_wedge}
 use Rattle.slope.specs.Falls.{Near}
 use Rattle.slope.specs.Ideal.{ideal-steps, ideal_of}
-use Rattle.slope.specs.Picks.{upward, level-is, below, above, end-normal, end_fits, rounds-ideal, good-inputs}
+use Rattle.slope.proofs.Picks.{upward, level-is, below, above, end-normal, end_fits, rounds-ideal, good-inputs}
 use Rattle.slope.specs.Wedges.{multiple-slope}
-use Rattle.slope.specs.Proved.{is_whole, products, generate, same_whole}
+use Rattle.slope.proofs.Proved.{is_whole, products, generate, same_whole}
 use Rattle.slope.specs.Touches.{touch_at, near_at, OnLevel, NoZero, TouchOutside, TouchLevel, TouchedAs, QuickTouch}
 
 -- ---- numbers: t - z is below t, or not

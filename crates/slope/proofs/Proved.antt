@@ -26,7 +26,7 @@ use Rattle.laws.specs.Answers.{laid_of, found_of, AnswerSays, answer-says}
 use Rattle.laws.proofs.Answers.{laid-products, laid-generated}
 use Rattle.slope.specs.Demands.{Inputs, signs_of, probe_at, powers_of, pick_at, remaining_of, OnSlope, Demanded, Same, Demand3}
 use Rattle.slope.specs.Ideal.{ideal-steps, ideal_of}
-use Rattle.slope.specs.Picks.{some, few, ideally, fewest, end-even, end-normal, pick-says}
+use Rattle.slope.proofs.Picks.{some, few, ideally, fewest, end-even, end-normal, pick-says}
 use Rattle.slope.specs.Rounds.{Edge}
 use Rattle.slope.specs.Wedges.{wedge-slope}
 
