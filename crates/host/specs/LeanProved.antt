@@ -18,13 +18,13 @@ use Rattle.rules.specs.Walk.{signs}
 use Rattle.rules.specs.TwoCalls.{walk_of}
 use Rattle.rules.specs.Firm.{footing, start_under, firm_of}
 use Rattle.laws.specs.Tests.{In}
-use Rattle.laws.specs.Theorems.{refused-number}
-use Rattle.laws.specs.TwoCalls.{walk-number}
+use Rattle.laws.proofs.Theorems.{refused-number}
+use Rattle.laws.proofs.TwoCalls.{walk-number}
 use Rattle.slope.specs.Demands.{Inputs, signs_of, powers_of, pick_at, OnSlope}
 use Rattle.planes.specs.Lean.{OnPlane, LeansBelow, last_of}
-use Rattle.planes.specs.LeanProved.{known-lean}
+use Rattle.planes.proofs.LeanProved.{known-lean}
 use Rattle.planes.specs.Firm.{firm_at, Touches, firm_looks, Room, Plane, ConvexPart, Touched}
-use Rattle.planes.specs.FirmProved.{firm-footing}
+use Rattle.planes.proofs.FirmProved.{firm-footing}
 use Rattle.flat.specs.declared.FlatPick.{FlatPick}
 use Rattle.flat.specs.declared.FlatLean.{FlatLean}
 use Rattle.flat.specs.declared.FlatFirm.{FlatFirm}

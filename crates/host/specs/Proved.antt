@@ -8,8 +8,8 @@ use Rattle.rules.specs.declared.Accepted.{Accepted as AcceptedPick}
 use Rattle.rules.specs.declared.Pick.{Pick}
 use Rattle.rules.specs.declared.Pick.TheVariants.{Accepted, Refused}
 use Rattle.slope.specs.Demands.{Inputs, pick_at, RefusedOutside, OneOf, Same, of_wedge}
-use Rattle.slope.specs.Proved.{demand-3}
-use Rattle.slope.specs.Corollary.{base-demand-3}
+use Rattle.slope.proofs.Proved.{demand-3}
+use Rattle.slope.proofs.Corollary.{base-demand-3}
 use Rattle.flat.specs.declared.FlatPick.{FlatPick}
 use Rattle.flat.specs.Flat.{flat_pick}
 use Rattle.host.specs.Demands.{FlatDemanded, FlatSame, Called, wedge_called, stack_called, HostDemand, HostDemand3, HostBaseDemand3}

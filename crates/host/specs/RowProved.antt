@@ -12,10 +12,10 @@ use Rattle.rules.specs.declared.Accepted.{Accepted as AcceptedPick}
 use Rattle.rules.specs.declared.Pick.TheVariants.{Accepted, Refused}
 use Rattle.rules.specs.Pick.{pick_of}
 use Rattle.rules.specs.TwoCalls.{check_of, walk_of, in_a_row}
-use Rattle.laws.specs.TwoCalls.{check-number, check-no-step, row}
+use Rattle.laws.proofs.TwoCalls.{check-number, check-no-step, row}
 use Rattle.slope.specs.Demands.{Inputs, pick_at, RefusedOutside, OneOf, Same, of_wedge}
-use Rattle.slope.specs.Proved.{demand-3}
-use Rattle.slope.specs.Corollary.{base-demand-3}
+use Rattle.slope.proofs.Proved.{demand-3}
+use Rattle.slope.proofs.Corollary.{base-demand-3}
 use Rattle.slope.specs.Rows.{check_at}
 use Rattle.flat.specs.declared.FlatPick.{FlatPick}
 use Rattle.flat.specs.declared.FlatReady.{FlatReady}

@@ -5,11 +5,11 @@ use Rattle.rules.specs.declared.Vector.{Vector}
 use Rattle.rules.specs.declared.Accepted.{Accepted as AcceptedPick}
 use Rattle.rules.specs.declared.Touch.{Touch}
 use Rattle.rules.specs.declared.Touch.TheVariants.{Guess, Refused as TouchRefused}
-use Rattle.laws.specs.Theorems.{touch-number}
+use Rattle.laws.proofs.Theorems.{touch-number}
 use Rattle.slope.specs.Demands.{Inputs, pick_at, OnSlope, of_wedge}
-use Rattle.slope.specs.Proved.{demand-3}
+use Rattle.slope.proofs.Proved.{demand-3}
 use Rattle.slope.specs.Touches.{touch_at, OnLevel, TouchedAs}
-use Rattle.slope.specs.TouchProved.{quick-touch}
+use Rattle.slope.proofs.TouchProved.{quick-touch}
 use Rattle.flat.specs.declared.FlatPick.{FlatPick}
 use Rattle.flat.specs.declared.FlatTouch.{FlatTouch}
 use Rattle.flat.specs.Flat.{flat_pick, flat_touch}

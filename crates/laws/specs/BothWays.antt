@@ -13,17 +13,16 @@ use Rattle.rules.specs.declared.Pair.{Pair}
 use Rattle.rules.specs.declared.Pair.TheVariants.{P01, P02, P10, P12, P20, P21}
 use Rattle.rules.specs.Vectors.{◌⊕◌, ◌⊖◌, minus, lay}
 use Rattle.rules.specs.Asked.{Asked, answered, ◌>>=◌, ◌>>◌}
-use Rattle.rules.specs.Walk.{Stop, stop, ensure, asked, Axis, unit, units, pairs, from, to, vector_of, first, second, way, level, only, takes_part, Probe, Found, laid, falls, is_level, rounds, found}
+use Rattle.rules.specs.Walk.{Stop, stop, ensure, asked, Axis, unit, from, to, vector_of, first, second, way, level, takes_part, Probe, Found, laid, falls, is_level}
 use Rattle.laws.specs.Tests.{is_true}
-use Rattle.laws.specs.Only.{taking-in}
 use Rattle.laws.specs.Parts.{difference-turned}
 use Rattle.laws.specs.Levels.{levels-eq, from-remains, to-remains}
-use Rattle.laws.specs.Tame.{turned, units-tame}
+use Rattle.laws.specs.Tame.{turned}
 use Rattle.laws.specs.Frames.{lay-minus, lay-difference}
 use Rattle.laws.specs.Next.{LevelsAnswered}
 use Rattle.laws.specs.Answered.{Among, Both, both-answered, asked-answered, ensured-answered}
-use Rattle.laws.specs.Ended.{Stood, stood-among, falls-stood, end-stood}
-use Rattle.laws.specs.PickParts.{WalkPart, PickParts}
+use Rattle.laws.specs.Ended.{Stood, stood-among, falls-stood}
+use Rattle.laws.specs.PickParts.{PickParts}
 use Rattle.laws.specs.Answers.{laid_of}
 
 -- ---- the pair (l, k)
@@ -50,7 +49,7 @@ turned-takes v x t = rw (turned-from x, turned-to x) (yes_and (not (level v (to 
 pub turned-way : (m : Triangle) (x : Pair) → way m (turned x) ≡ minus (way m x)
 turned-way m x = ap₂ (λ (k l : Axis). vector_of m k ⊖ vector_of m l) (turned-to x) (turned-from x) ∙ difference-turned (first m x) (second m x)
 
-laid-way : (s : Vector) (m : Triangle) (x : Pair) → way (laid s m) x ≡ lay s (way m x)
+pub laid-way : (s : Vector) (m : Triangle) (x : Pair) → way (laid s m) x ≡ lay s (way m x)
 laid-way s m x = ap₂ ◌⊖◌ (laid_of s m (to x)) (laid_of s m (from x)) ∙ sym (lay-difference s (second m x) (first m x))
 
 module _ (c : Probe) where
@@ -87,25 +86,6 @@ module _ (c : Probe) where
 
   both-among : {t w : List Vector} {u : Vector} → Among t w → BothWays t u → BothWays w u
   both-among a h = record { there = stood-among c _ a h.there; back = stood-among c _ a h.back }
-
-  -- of a walk with the level axes v
-  module _ {R : ℕ} {v : Levels} {f : Found} {t : List Vector} (h : WalkPart c R v f t) where
-    abbrev m : Triangle
-    m = h.end.0
-
-    side-stood : (x : Pair) → T (takes_part v x) → Stood c t (lay s (way m x))
-    unfolding rounds
-    side-stood x takes = stood-among c _ h.among (end-stood c (only (takes_part v) pairs) _ 0 units units-tame.unimodular h.walked x (taking-in v x takes))
-
-    sides-way : (x : Pair) → way f.triangle x ≡ lay s (way m x)
-    unfolding found
-    sides-way x = ap (λ (f : Found). way f.triangle x) h.is ∙ laid-way s m x
-
-    pub sides-looked : (x : Pair) → T (takes_part v x) → BothWays t (way f.triangle x)
-    sides-looked x takes = rw (sides-way x) (record {
-      there = side-stood x takes;
-      back = rw (← lay-minus s (way m x), ← turned-way m x) (side-stood (turned x) (turned-takes v x takes));
-    })
 
   -- of a pick
   module _ {R : ℕ} {f : Found} {t : List Vector} (h : PickParts c R f t) where

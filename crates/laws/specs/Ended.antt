@@ -4,7 +4,7 @@ use Rattle.std.proofs.Math.Path.{◌≡◌, refl, subst}
 use Rattle.std.proofs.Common.{sym, ap, ◌∙◌, inl, inr}
 use Rattle.std.specs.Prelude.{Bool}
 use Rattle.std.proofs.Math.Bool.{true, false}
-use mathlib.Core.List.{List, [], ◌∷◌, append-nil}
+use mathlib.Core.List.{List, [], ◌∷◌}
 use Prim.Native.Nat.{ℕ, zero, suc, ◌≤◌}
 use native.Mathlib.Omega.{arith}
 use Rattle.std.proofs.Math.IntN.{pos}
@@ -16,16 +16,14 @@ use Rattle.rules.specs.declared.Choice.{Choice}
 use Rattle.rules.specs.declared.Choice.TheVariants.{Nothing, Chosen}
 use Rattle.rules.specs.Vectors.{◌⊕◌, scale, lay}
 use Rattle.rules.specs.Asked.{Asked, answered, refused, after, ◌>>=◌}
-use Rattle.rules.specs.Walk.{Stop, stop, asked, Probe, look_at, falls_at, falls, falling, round, walk, way, step, keep, first_free, choice}
+use Rattle.rules.specs.Walk.{Stop, stop, asked, Probe, look_at, falls_at, falls, falling, round, walk, way, step, keep}
 use Rattle.laws.specs.Tests.{In}
-use Rattle.laws.specs.Only.{each_in}
 use Rattle.laws.specs.Triples.{det_of, step-det}
 use Rattle.laws.specs.Tame.{units-tame}
-use Rattle.laws.specs.Choosing.{Chose, choice-is, choice-exists}
 use Rattle.laws.specs.Says.{says-answered}
-use Rattle.laws.specs.Looks.{look-says, RoundOf, round-says}
+use Rattle.laws.specs.Looks.{look-says}
 use Rattle.laws.specs.Next.{Reached}
-use Rattle.laws.specs.Answered.{Among, Both, both-answered, asked-answered}
+use Rattle.laws.specs.Answered.{Among, Both, both-answered}
 
 module _ (c : Probe) where
   -- the voxel at l times u from the apex is among those looked at, and empty
@@ -64,11 +62,11 @@ module _ (c : Probe) where
   pub falls-stood : (u : Vector) {t : List Vector} → falls c u ≡ answered false t → Stood t u
   falls-stood u e = stood-at u c.powers e
 
-  abbrev laid_way : Triangle → Pair → Vector
+  abbrev pub laid_way : Triangle → Pair → Vector
   laid_way m x = lay c.signs (way m x)
 
   -- of a round no pair fell
-  none-stood : (m : Triangle) (xs : List Pair) {fs : List Pair} {t : List Vector} → falling c m xs ≡ answered fs t → fs ≡ [] → (x : Pair) → In x xs → Stood t (laid_way m x)
+  pub none-stood : (m : Triangle) (xs : List Pair) {fs : List Pair} {t : List Vector} → falling c m xs ≡ answered fs t → fs ≡ [] → (x : Pair) → In x xs → Stood t (laid_way m x)
   unfolding falling keep
   none-stood m [] e n x i = absurd i
   none-stood m (y ∷ ys) {fs} {t} e n x i = go b.answer b.first keeps (λ k. none-stood m ys d.first k x) i
@@ -98,10 +96,10 @@ module _ (c : Probe) where
     goes_on zero n m x = refused (stop 9 c.apex n) []
     goes_on (suc left) n m x = walk c ps left (suc n) (step m x)
 
-    abbrev rest : ℕ → ℕ → Triangle → Choice → Asked Stop (Triangle × ℕ)
+    abbrev pub rest : ℕ → ℕ → Triangle → Choice → Asked Stop (Triangle × ℕ)
     rest left n m = λ chosen. elim chosen [ Nothing ↦ answered (m, n) [] | Chosen x ↦ goes_on left n m x ]
 
-    walk-text : (left n : ℕ) (m : Triangle) → walk c ps left n m ≡ (asked n (round c ps m) >>= rest left n m)
+    pub walk-text : (left n : ℕ) (m : Triangle) → walk c ps left n m ≡ (asked n (round c ps m) >>= rest left n m)
     unfolding walk
     walk-text zero n m = refl
     walk-text (suc left) n m = refl
@@ -129,7 +127,7 @@ module _ (c : Probe) where
     steps-kept (suc left) n m w = no-fewer n m (suc left) w (λ y u k. omega (arith, steps-kept left (suc n) (step m y) k))
 
     -- so where a pair falls it does not end here: it refuses 9, or takes one step more at least
-    not-here : (left n : ℕ) (m : Triangle) (x : Pair) (t : List Vector) {u : List Vector} → after t (goes_on left n m x) ≡ answered (m, n) u → ⊥
+    pub not-here : (left n : ℕ) (m : Triangle) (x : Pair) (t : List Vector) {u : List Vector} → after t (goes_on left n m x) ≡ answered (m, n) u → ⊥
     unfolding after
     not-here zero n m x t w = let z : ◌≡◌ {A = ℕ} 0 1 = cc in omega arith
     not-here (suc left) n m x t {u} w = go (walk c ps left (suc n) (step m x)) refl w
@@ -140,60 +138,3 @@ module _ (c : Probe) where
             let few = subst (λ (e : Triangle × ℕ). suc n ≤ e.1) is (steps-kept left (suc n) (step m x) f) in
             omega (arith, few)
         go (refused r v) f w = let z : ◌≡◌ {A = ℕ} 0 1 = cc in omega arith
-
-    module _ (n : ℕ) (m : Triangle) (r : Reached c ps n m) {fs : List Pair} {t : List Vector} (e : falling c m ps ≡ answered fs t) where
-      round_is : round c ps m ≡ answered (choice m fs) t
-      unfolding round ◌>>=◌ after
-      round_is = rw e (ap (answered (choice m fs)) (append-nil t))
-
-      walk_is : (left : ℕ) (x : Choice) → choice m fs ≡ x → walk c ps left n m ≡ after t (rest left n m x)
-      unfolding asked ◌>>=◌
-      walk_is left x f = walk-text left n m ∙ rw round_is (ap (λ (x : Choice). after t (rest left n m x)) f)
-
-      pub walk_ends : (left : ℕ) → EndsIfNoneFalls left n m fs t
-      unfolding after choice first_free
-      walk_ends left = record { determinant = one; ends = ends; only = only; goes = goes }
-        where
-          one : det_of m ≡ pos 1
-          one = reached-determinant n m r
-
-          ends : fs ≡ [] → walk c ps left n m ≡ answered (m, n) t
-          ends f = walk_is left Nothing (rw f refl) ∙ ap (answered (m, n)) (append-nil t)
-
-          only : (u : List Vector) → walk c ps left n m ≡ answered (m, n) u → fs ≡ []
-          only u w = go (choice m fs) refl
-            where
-              go : (y : Choice) → choice m fs ≡ y → fs ≡ []
-              go Nothing f = choice-exists m one fs f
-              go (Chosen x) f = absurd (not-here left n m x t (sym (walk_is left (Chosen x) f) ∙ w))
-
-          goes : (fs ≡ [] → ⊥) → (x : Pair) × In x fs × (walk c ps left n m ≡ after t (goes_on left n m x)) × Reached c ps (suc n) (step m x)
-          goes some = go (choice m fs) refl (choice-is (λ x. In x fs) m fs (each_in fs))
-            where
-              go : (y : Choice) → choice m fs ≡ y → Chose (λ x. In x fs) (Unit {0}) y → (x : Pair) × In x fs × (walk c ps left n m ≡ after t (goes_on left n m x)) × Reached c ps (suc n) (step m x)
-              go Nothing f i = absurd (some (choice-exists m one fs f))
-              go (Chosen x) f i = (x, i, walk_is left (Chosen x) f, (m, x, r, subst (RoundOf c ps m) f (says-answered (round-says c ps m) round_is).holds, refl))
-
-    -- ---- a walk that ended has looked at each way of its triangle, at each power
-    last-round : (m : Triangle) → det_of m ≡ pos 1 → {t : List Vector} → round c ps m ≡ answered Nothing t → (x : Pair) → In x ps → Stood t (laid_way m x)
-    unfolding round
-    last-round m d e x i =
-        let b = both-answered (falling c m ps) (λ fs. answered (choice m fs) []) e in
-        let is : choice m b.answer ≡ Nothing = let k = b.second in cc in
-        stood-among _ b.first_among (none-stood m ps b.first (choice-exists m d b.answer is) x i)
-
-    -- in this round or in a later one
-    ended : (n : ℕ) (m : Triangle) → det_of m ≡ pos 1 → (x : Pair) → In x ps → (e : Triangle × ℕ) (t : List Vector) (left : ℕ) → walk c ps left n m ≡ answered e t
-        → ((y : Pair) (u : List Vector) → goes_on left n m y ≡ answered e u → Stood u (laid_way e.0 x)) → Stood t (laid_way e.0 x)
-    ended n m d x i e t left w later = go b.answer (asked-answered n _ b.first) b.second
-      where
-        b : Both (asked n (round c ps m)) (rest left n m) e t
-        b = both-answered _ _ (sym (walk-text left n m) ∙ w)
-
-        go : (y : Choice) → round c ps m ≡ answered y b.front → rest left n m y ≡ answered e b.behind → Stood t (laid_way e.0 x)
-        go Nothing a k = let is : (m, n) ≡ e = cc in subst (λ (e : Triangle × ℕ). Stood t (laid_way e.0 x)) is (stood-among _ b.first_among (last-round m d a x i))
-        go (Chosen y) a k = stood-among _ b.second_among (later y _ k)
-
-    pub end-stood : (left n : ℕ) (m : Triangle) → det_of m ≡ pos 1 → {e : Triangle × ℕ} {t : List Vector} → walk c ps left n m ≡ answered e t → (x : Pair) → In x ps → Stood t (lay c.signs (way e.0 x))
-    end-stood zero n m d {e} {t} w x i = ended n m d x i e t zero w (λ y u k. absurd (let z : ◌≡◌ {A = ℕ} 0 1 = cc in omega arith))
-    end-stood (suc left) n m d {e} {t} w x i = ended n m d x i e t (suc left) w (λ y u k. end-stood left (suc n) (step m y) (step-det m y ∙ d) k x i)

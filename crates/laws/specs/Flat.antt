@@ -9,9 +9,9 @@ use Rattle.rules.specs.declared.Levels.{Levels}
 use Rattle.rules.specs.declared.Triangle.{Triangle}
 use Rattle.rules.specs.declared.Pair.{Pair}
 use Rattle.rules.specs.Vectors.{vector, ◌⊕◌, ◌⊖◌, scale, dot}
-use Rattle.rules.specs.Walk.{Axis, axis0, axis1, axis2, unit, units, vector_of, with_vector, from, to, first, second, way, step, level, takes_part, unless_level, levelled, normal}
+use Rattle.rules.specs.Walk.{Axis, axis0, axis1, axis2, unit, units, vector_of, with_vector, from, to, first, second, way, step, level, takes_part, unless_level, levelled}
 use Rattle.laws.specs.Parts.{part, part-difference, vector-eq, of2, dot-difference, dot-unit, scale_one}
-use Rattle.laws.specs.Triples.{all_of, det_of, normal-dot, crosses, combined, expand-crosses}
+use Rattle.laws.specs.Triples.{det_of, crosses, combined, expand-crosses}
 use Rattle.laws.specs.Levels.{from-remains, to-remains}
 
 -- ---- flat triangles
@@ -102,7 +102,7 @@ level-part true n a d q = no_part n a d ∙ ap (λ z. n *ℤ z -ℤ pos 1 *ℤ n
 level-part false n a d q = byring (n ∷ a ∷ d ∷ []) (search sides depth 40 fits 5000) tt
 
 -- a sum over the parts of a unit vector is one term of it
-over-unit : (c : Axis → ℤ) (j : Axis) → c axis0 *ℤ (unit j).x +ℤ c axis1 *ℤ (unit j).y +ℤ c axis2 *ℤ (unit j).z ≡ c j
+pub over-unit : (c : Axis → ℤ) (j : Axis) → c axis0 *ℤ (unit j).x +ℤ c axis1 *ℤ (unit j).y +ℤ c axis2 *ℤ (unit j).z ≡ c j
 over-unit c axis0 = byring (c axis0 ∷ c axis1 ∷ c axis2 ∷ []) (search sides depth 40 fits 5000) tt
 over-unit c axis1 = byring (c axis0 ∷ c axis1 ∷ c axis2 ∷ []) (search sides depth 40 fits 5000) tt
 over-unit c axis2 = byring (c axis0 ∷ c axis1 ∷ c axis2 ∷ []) (search sides depth 40 fits 5000) tt
@@ -118,7 +118,7 @@ module _ (v : Levels) (n a d : Vector) (h : (k : Axis) → T (level v k) → par
       rw (raise-part v.x n.x a.x d.x (l axis0) (h axis0), raise-part v.y n.y a.y d.y (l axis1) (h axis1), raise-part v.z n.z a.z d.z (l axis2) (h axis2))
       (byring ones (search sides depth 40 fits 5000) tt)
 
-  levelled-along : dot (levelled v n) a ≡ dot n a -ℤ (is_one v.x *ℤ n.x *ℤ d.x +ℤ is_one v.y *ℤ n.y *ℤ d.y +ℤ is_one v.z *ℤ n.z *ℤ d.z)
+  pub levelled-along : dot (levelled v n) a ≡ dot n a -ℤ (is_one v.x *ℤ n.x *ℤ d.x +ℤ is_one v.y *ℤ n.y *ℤ d.y +ℤ is_one v.z *ℤ n.z *ℤ d.z)
   unfolding dot levelled
   levelled-along =
       rw (level-part v.x n.x a.x d.x (h axis0), level-part v.y n.y a.y d.y (h axis1), level-part v.z n.z a.z d.z (h axis2))
@@ -129,7 +129,7 @@ no_one true h = absurd h
 no_one false h = refl
 
 module _ (v : Levels) (m : Triangle) (f : Flat v m) where
-  part-along : (j k : Axis) → T (level v k) → part k (vector_of m j) ≡ part k (unit j)
+  pub part-along : (j k : Axis) → T (level v k) → part k (vector_of m j) ≡ part k (unit j)
   part-along j k e = (f k e j).part-is
 
   module _ (n : Vector) (l : Lies v n) where
@@ -149,15 +149,9 @@ module _ (v : Levels) (m : Triangle) (f : Flat v m) where
     level-dot j e = ap (dot n) ((f j e j).own refl) ∙ dot-unit n j ∙ l j e
 
   -- on every solid: 0 with the level vectors and 1 with the others
-  product_is : (b : Bool) (z p : ℤ) → p ≡ pos 1 → (T b → z ≡ p) → p -ℤ is_one b *ℤ z ≡ product b
+  pub product_is : (b : Bool) (z p : ℤ) → p ≡ pos 1 → (T b → z ≡ p) → p -ℤ is_one b *ℤ z ≡ product b
   product_is true z p e h = rw (h tt, e)
   product_is false z p e h = rw e (byring (z ∷ []) (search sides depth 40 fits 5000) tt)
-
-  pub levelled-dot : det_of m ≡ pos 1 → (j : Axis) → dot (levelled v (normal m)) (vector_of m j) ≡ product (level v j)
-  levelled-dot d j =
-      levelled-along v (normal m) (vector_of m j) (unit j) (part-along j)
-      ∙ ap (λ z. dot (normal m) (vector_of m j) -ℤ z) (over-unit (λ k. is_one (level v k) *ℤ part k (normal m)) j)
-      ∙ product_is (level v j) (part j (normal m)) (dot (normal m) (vector_of m j)) (all_of (normal-dot m) j ∙ d) (λ e. sym (dot-unit (normal m) j) ∙ ap (dot (normal m)) (sym ((f j e j).own refl)))
 
 -- raised and levelled again is n
 back : (b : Bool) (z : ℤ) → (T b → z ≡ pos 0) → unless_level b (raise b z) ≡ z

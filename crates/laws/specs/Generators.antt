@@ -5,7 +5,6 @@ use Rattle.std.proofs.Math.Path.{refl, sym, ap, ap₂, subst}
 use Rattle.std.proofs.Common.{◌∙◌}
 use Rattle.std.proofs.Math.Bool.{true, false, not}
 use mathlib.Core.List.{List, [], ◌∷◌, ◌++◌, map}
-use Rattle.std.proofs.Math.Dec.{T}
 use Rattle.std.proofs.Math.IntN.{◌+ℤ◌}
 use Rattle.integers.specs.Reify.{byring, sides, by-eq}
 use Rattle.rules.specs.declared.Vector.{Vector}
@@ -14,9 +13,7 @@ use Rattle.rules.specs.declared.Triangle.{Triangle}
 use Rattle.rules.specs.declared.Pair.TheVariants.{P01, P02}
 use Rattle.rules.specs.Vectors.{◌⊕◌, ◌⊖◌, scale, dot, origin}
 use Rattle.rules.specs.Walk.{Axis, axis0, axis1, axis2, all_axes, vector_of, way, levels, level, keep, only, remaining}
-use Rattle.laws.specs.Tests.{Each}
-use Rattle.laws.specs.Only.{each_of, each_both, each_map, only-holds}
-use Rattle.laws.specs.Parts.{part, vector-by-parts, part-sum, part-difference, part-scale, part-origin, dot-sum, dot-difference, dot-scale, dot-origin}
+use Rattle.laws.specs.Parts.{part, vector-by-parts, part-sum, part-difference, part-scale, part-origin, dot-sum, dot-scale, dot-origin}
 use Rattle.laws.specs.Triples.{combined}
 use Rattle.laws.specs.Flat.{product}
 
@@ -76,21 +73,21 @@ combines-none : (gs : List Vector) → Combines gs origin
 combines-none [] = refl
 combines-none (g ∷ gs) = (pos 0, subst (Combines gs) (none-taken g) (combines-none gs))
 
-combines-both : (gs hs : List Vector) (u w : Vector) → Combines gs u → Combines hs w → Combines (gs ++ hs) (u ⊕ w)
+pub combines-both : (gs hs : List Vector) (u w : Vector) → Combines gs u → Combines hs w → Combines (gs ++ hs) (u ⊕ w)
 combines-both [] hs u w h k = subst (Combines hs) (none_before w ∙ ap (λ (a : Vector). a ⊕ w) (sym h)) k
 combines-both (g ∷ gs) hs u w h k = (h.0, subst (Combines (gs ++ hs)) (moved u w g h.0) (combines-both gs hs (u ⊖ scale h.0 g) w h.1 k))
 
 -- ---- sums over a list: of c, and of c f
 module _ {A : Type 0} (c : A → ℤ) where
-  total : List A → ℤ
+  pub total : List A → ℤ
   total [] = pos 0
   total (x ∷ xs) = c x +ℤ total xs
 
-  sum : (A → Vector) → List A → Vector
+  pub sum : (A → Vector) → List A → Vector
   sum f [] = origin
   sum f (x ∷ xs) = scale (c x) (f x) ⊕ sum f xs
 
-  combines-map : (f : A → Vector) (xs : List A) → Combines (map f xs) (sum f xs)
+  pub combines-map : (f : A → Vector) (xs : List A) → Combines (map f xs) (sum f xs)
   unfolding sum
   combines-map f [] = refl
   combines-map f (x ∷ xs) = (c x, subst (Combines (map f xs)) (sym (taken (f x) (sum f xs) (c x))) (combines-map f xs))
@@ -99,7 +96,7 @@ module _ {A : Type 0} (c : A → ℤ) where
     abbrev others : List A → List A
     others xs = only (λ x. not (test x)) xs
 
-    sum-split : (xs : List A) → sum f (only test xs) ⊕ sum f (others xs) ≡ sum f xs
+    pub sum-split : (xs : List A) → sum f (only test xs) ⊕ sum f (others xs) ≡ sum f xs
     unfolding sum only keep
     sum-split [] = none-behind origin
     sum-split (x ∷ xs) = go (test x) ∙ ap (λ u. scale (c x) (f x) ⊕ u) (sum-split xs)
@@ -109,7 +106,7 @@ module _ {A : Type 0} (c : A → ℤ) where
         go false = swapped (sum f (only test xs)) (scale (c x) (f x)) (sum f (others xs))
 
     -- the product with n, which is 0 with the vectors of the test and 1 with the others
-    dot-total : (n : Vector) → ((x : A) → dot n (f x) ≡ product (test x)) → (xs : List A) → dot n (sum f xs) ≡ total (others xs)
+    pub dot-total : (n : Vector) → ((x : A) → dot n (f x) ≡ product (test x)) → (xs : List A) → dot n (sum f xs) ≡ total (others xs)
     unfolding sum total only keep
     dot-total n h [] = dot-origin n
     dot-total n h (x ∷ xs) = dot-sum n (scale (c x) (f x)) (sum f xs) ∙ ap₂ ◌+ℤ◌ (dot-scale n (f x) (c x) ∙ ap (λ z. c x *ℤ z) (h x)) (dot-total n h xs) ∙ go (test x)
@@ -125,7 +122,7 @@ module _ (m : Triangle) (c : Axis → ℤ) where
   from-corner k [] = none-taken (vector_of m k)
   from-corner k (l ∷ ls) = ap (λ u. scale (c l) (vector_of m l ⊖ vector_of m k) ⊕ u) (from-corner k ls) ∙ gathered (vector_of m k) (sum c (vector_of m) ls) (vector_of m l) (c l) (total c ls)
 
-  combines-sides : (ks : List Axis) → total c ks ≡ pos 0 → Combines (sides_between m ks) (sum c (vector_of m) ks)
+  pub combines-sides : (ks : List Axis) → total c ks ≡ pos 0 → Combines (sides_between m ks) (sum c (vector_of m) ks)
   unfolding sum total
   combines-sides [] h = refl
   combines-sides (k ∷ ks) h =
@@ -137,45 +134,9 @@ abbrev pub Products : Levels → Vector → Triangle → Type 0
 Products v n m = (k : Axis) → dot n (vector_of m k) ≡ product (level v k)
 
 module _ (v : Levels) (n : Vector) (m : Triangle) (p : Products v n m) where
-  all_three : (c : Axis → ℤ) → combined m (c axis0) (c axis1) (c axis2) ≡ sum c (vector_of m) all_axes
+  pub all_three : (c : Axis → ℤ) → combined m (c axis0) (c axis1) (c axis2) ≡ sum c (vector_of m) all_axes
   unfolding sum
   all_three c = sym (joined (scale (c axis0) m.m0) (scale (c axis1) m.m1) (scale (c axis2) m.m2)) ∙ ap (λ u. scale (c axis0) m.m0 ⊕ (scale (c axis1) m.m1 ⊕ u)) (sym (none-behind (scale (c axis2) m.m2)))
-
-  pub face-generated : (c : Axis → ℤ) → dot n (combined m (c axis0) (c axis1) (c axis2)) ≡ pos 0 → Combines (generators v m) (combined m (c axis0) (c axis1) (c axis2))
-  unfolding remaining
-  face-generated c h =
-      subst (Combines (generators v m)) (sum-split c (vector_of m) (level v) all_axes ∙ sym (all_three c))
-      (combines-both (map (vector_of m) (only (level v) all_axes)) (sides_between m (remaining v)) _ _ (combines-map c (vector_of m) (only (level v) all_axes))
-      (combines-sides m c (remaining v) (sym (dot-total c (vector_of m) (level v) n p all_axes) ∙ ap (dot n) (sym (all_three c)) ∙ h)))
-
-  -- and the generators lie in it
-  is-level : (b : Bool) → T b → product b ≡ pos 0
-  is-level true t = refl
-  is-level false t = absurd t
-
-  is-not : (b : Bool) → T (not b) → product b ≡ pos 1
-  is-not true t = absurd t
-  is-not false t = refl
-
-  abbrev InFace : Vector → Type 0
-  InFace g = dot n g ≡ pos 0
-
-  abbrev AtOne : Axis → Type 0
-  AtOne k = dot n (vector_of m k) ≡ pos 1
-
-  sides-in : (ks : List Axis) → Each AtOne ks → Each InFace (sides_between m ks)
-  sides-in [] h = tt
-  sides-in (k ∷ ks) h = each_both InFace (map (λ l. vector_of m l ⊖ vector_of m k) ks) (sides_between m ks) (each_map InFace (λ l. vector_of m l ⊖ vector_of m k) ks (each_of AtOne (λ l. InFace (vector_of m l ⊖ vector_of m k)) ks side h.1)) (sides-in ks h.1)
-    where
-      side : (l : Axis) → AtOne l → InFace (vector_of m l ⊖ vector_of m k)
-      side l e = dot-difference n (vector_of m l) (vector_of m k) ∙ rw (e, h.0) refl
-
-  pub generators-in : Each InFace (generators v m)
-  unfolding remaining
-  generators-in =
-      each_both InFace (map (vector_of m) (only (level v) all_axes)) (sides_between m (remaining v))
-      (each_map InFace (vector_of m) (only (level v) all_axes) (each_of (λ k. T (level v k)) (λ k. InFace (vector_of m k)) (only (level v) all_axes) (λ k t. p k ∙ is-level (level v k) t) (only-holds (level v) all_axes)))
-      (sides-in (remaining v) (each_of (λ k. T (not (level v k))) AtOne (remaining v) (λ k t. p k ∙ is-not (level v k) t) (only-holds (λ k. not (level v k)) all_axes)))
 
 -- ---- with no level axis: the sides from corner 0 are enough
 pub two-sides : (m : Triangle) (v : Vector) → Combines (generators (levels false false false) m) v → (c1 : ℤ) × (c2 : ℤ) × (v ≡ scale c1 (way m P01) ⊕ scale c2 (way m P02))

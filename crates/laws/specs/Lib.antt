@@ -1,4 +1,4 @@
--- What holds of the definitions of documents 01 and 02 on every solid. `Theorems` and `TwoCalls` state it by name; the others are the lemmas.
+-- What holds of the definitions of documents 01 and 02 on every solid: the lemmas. `proofs/Theorems` and `proofs/TwoCalls` state it by name.
 pub mod Tests
 pub mod Only
 pub mod Parts
@@ -33,10 +33,6 @@ pub mod Picks
 pub mod Touches
 pub mod Answers
 pub mod Handed
-pub mod Row
 pub mod Beyond
 pub mod Touched
 pub mod BothWays
-pub mod Stacks
-pub mod Theorems
-pub mod TwoCalls

@@ -13,7 +13,8 @@ use Rattle.laws.specs.Parts.{part, dot-unit}
 use Rattle.laws.specs.Triples.{det_of, of12}
 use Rattle.laws.specs.Frames.{IsSign, Signs, lay-lay, lay-dot}
 use Rattle.laws.specs.Rounds.{WalkFound}
-use Rattle.laws.specs.Answers.{laid_of, found-determinant, found-products, found-levels, found-stays}
+use Rattle.laws.specs.Answers.{laid_of, found-determinant, found-levels, found-stays}
+use Rattle.laws.proofs.Answers.{found-products}
 use Rattle.planes.specs.Turn.{Face}
 
 -- ---- the determinant of a triangle that is laid in

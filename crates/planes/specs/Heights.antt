@@ -21,7 +21,8 @@ use Rattle.laws.specs.Tests.{compared}
 use Rattle.laws.specs.Parts.{NonNegative, part, part-sum, part-scale, vector-eq, of2, dot-difference, scale-dot, scale_one}
 use Rattle.laws.specs.Triples.{all_of, of9, of12, crosses, combined, expand, expand-crosses}
 use Rattle.laws.specs.Levels.{part-levelled}
-use Rattle.laws.specs.Flat.{Flat, product, levelled-dot}
+use Rattle.laws.specs.Flat.{Flat, product}
+use Rattle.laws.proofs.Flat.{levelled-dot}
 use Rattle.laws.specs.Tame.{Tame}
 use Rattle.laws.specs.Frames.{Signs, lay-lay, lay-dot, lay-size, sum-size}
 use Rattle.laws.specs.Rounds.{WalkFound}

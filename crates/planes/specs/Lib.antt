@@ -1,5 +1,5 @@
--- `Lean` states how far any plane can lean from an accepted normal, `Firm` how far the touched face of any solid can, once its footing was looked at.
--- `LeanProved` and `FirmProved` prove them, `LeanCases` and `FirmCases` show that they are not empty; the others are the lemmas.
+-- `Lean` states how far any plane can lean from an accepted normal, `Firm` how far the touched face of any solid can, once its footing was looked at; `FirmCases` shows that it is not
+-- empty; the others are the lemmas. The proofs of what is stated are in `proofs/`: `LeanProved` and `FirmProved`, and `LeanCases`.
 pub mod Footings
 pub mod Orders
 pub mod Turn
@@ -8,11 +8,8 @@ pub mod Lean
 pub mod Below
 pub mod Measured
 pub mod Upward
-pub mod LeanProved
-pub mod LeanCases
 pub mod Firm
 pub mod Standing
 pub mod Heights
 pub mod Rooms
-pub mod FirmProved
 pub mod FirmCases

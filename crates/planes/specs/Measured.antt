@@ -36,9 +36,11 @@ use Rattle.laws.specs.PickRule.{Faced}
 use Rattle.laws.specs.PickParts.{WalkPart, walk-part, pick-parts}
 use Rattle.laws.specs.Rounds.{WalkFound}
 use Rattle.laws.specs.Picks.{Accepting}
-use Rattle.laws.specs.Checks.{check-says}
-use Rattle.laws.specs.Answers.{laid_of, found_of, accepted-answer, accepted-tells}
-use Rattle.laws.specs.Handed.{walk-accepted, thirteen-when, accepted-walk}
+use Rattle.laws.proofs.Checks.{check-says}
+use Rattle.laws.specs.Answers.{laid_of, found_of, accepted-answer}
+use Rattle.laws.proofs.Answers.{accepted-tells}
+use Rattle.laws.specs.Handed.{accepted-walk}
+use Rattle.laws.proofs.Handed.{walk-accepted, thirteen-when}
 use Rattle.planes.specs.Turn.{Face}
 use Rattle.planes.specs.Faces.{found-face}
 

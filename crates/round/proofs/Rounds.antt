@@ -21,7 +21,8 @@ use Rattle.rules.specs.Asked.{Asked, answered, ◌>>=◌}
 use Rattle.rules.specs.Walk.{pairs, only, keep, from, to, way, takes_part, Probe, falls, falling, round}
 use Rattle.laws.specs.Triples.{det_of}
 use Rattle.laws.specs.Sphere.{weight}
-use Rattle.laws.specs.Choosing.{better, best, best-is-choice}
+use Rattle.laws.specs.Choosing.{better, best}
+use Rattle.laws.proofs.Choosing.{best-is-choice}
 use Rattle.laws.specs.Tally.{Tally, yes, no, tally, Gives, most_looks, Countable, then-yes, inner-yes, inner-no, made-twice, at_once}
 use Rattle.solid.specs.Grid.{ranks_of}
 use Rattle.falls.specs.declared.Scene.{Scene}

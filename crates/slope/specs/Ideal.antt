@@ -24,7 +24,8 @@ use Rattle.laws.specs.Only.{each-both-of, only-holds, only-each, only_none, each
 use Rattle.laws.specs.Parts.{dot-difference}
 use Rattle.laws.specs.Triples.{All, all_first, all-second, all-with, det_of, step-det}
 use Rattle.laws.specs.Flat.{Flat, raised, step-flat}
-use Rattle.laws.specs.Choosing.{Chose, choice-is, choice-exists}
+use Rattle.laws.specs.Choosing.{Chose, choice-is}
+use Rattle.laws.proofs.Choosing.{choice-exists}
 
 module _ (n : Vector) (v : Levels) where
   -- ---- the walk

@@ -12,7 +12,7 @@ use Rattle.rules.specs.Pick.{is_inside, placing, judging, check, pick, answer, p
 use Rattle.rules.specs.Lean.{squared, longest, spread, last, last_power, bound_at}
 use Rattle.slope.specs.Demands.{pick_at, at, line}
 use Rattle.planes.specs.Lean.{last_of, AcceptsLine, LeanNotEmpty}
-use Rattle.planes.specs.LeanProved.{wedge-plane}
+use Rattle.planes.proofs.LeanProved.{wedge-plane}
 
 accepts-line : {a b c h reach : ℤ} {n : Vector} {tenths : ℕ} (k : AcceptedPick) → pick_at (line a b c h (at 100) (pos 0) reach) ≡ Accepted k → k.normal ≡ n
     → T (leb (tenths * ((bound_at (last_of (line a b c h (at 100) (pos 0) reach)) k).part * (squared (vector a b c) * squared n))) (10 * ((bound_at (last_of (line a b c h (at 100) (pos 0) reach)) k).whole * squared (cross (vector a b c) n))))

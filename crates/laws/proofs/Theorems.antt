@@ -39,7 +39,7 @@ use Rattle.laws.specs.Generators.{Combines, generators, two-sides}
 use Rattle.laws.specs.Tame.{units-tame}
 use Rattle.laws.specs.Sphere as Sphere
 use Rattle.laws.specs.Sphere.{weight}
-use Rattle.laws.specs.Choosing as Choosing
+use Rattle.laws.proofs.Choosing as Choosing
 use Rattle.laws.specs.Choosing.{best}
 use Rattle.laws.specs.Frames.{Signs, signs-are, lay-part-high}
 use Rattle.laws.specs.Powers as Powers
@@ -51,19 +51,23 @@ use Rattle.laws.specs.Next.{LevelsAnswered, Reached, NextLook}
 use Rattle.laws.specs.Axes.{levels-answered}
 use Rattle.laws.specs.Answered.{voxels_of}
 use Rattle.laws.specs.Ended as Ended
-use Rattle.laws.specs.Ended.{Stood, EndsIfNoneFalls, end-stood}
+use Rattle.laws.proofs.Ended as Ends
+use Rattle.laws.specs.Ended.{Stood, EndsIfNoneFalls}
+use Rattle.laws.proofs.Ended.{end-stood}
 use Rattle.laws.specs.PickParts.{PickParts, pick-parts}
-use Rattle.laws.specs.BothWays.{BothWays, parts-levels, levels-looked, sides-looked}
+use Rattle.laws.specs.BothWays.{BothWays, parts-levels, levels-looked}
+use Rattle.laws.proofs.BothWays.{sides-looked}
 use Rattle.laws.specs.Rounds.{WalkFound}
 use Rattle.laws.specs.Picks.{Accepting}
-use Rattle.laws.specs.Answers as Answers
-use Rattle.laws.specs.Answers.{steps_of, looks_of, found_of, stop_of, voxels-counted, accepted-answer, accepted-tells, refused-tells, few-steps, found-determinant, found-products, found-generated, found-signs, found-levels, found-steps, found-stays}
+use Rattle.laws.proofs.Answers as Answers
+use Rattle.laws.specs.Answers.{steps_of, looks_of, found_of, stop_of, voxels-counted, accepted-answer, found-determinant, found-signs, found-levels, found-steps, found-stays}
+use Rattle.laws.proofs.Answers.{accepted-tells, refused-tells, few-steps, found-products, found-generated}
 use Rattle.laws.specs.Corners as Corners
 use Rattle.laws.specs.Corners.{CornerEmpty, nth}
 use Rattle.laws.specs.Touches.{NextTouch}
-use Rattle.laws.specs.Touched as Touched
+use Rattle.laws.proofs.Touched as Touched
 use Rattle.laws.specs.Touched.{unmarked}
-use Rattle.laws.specs.Stacks as Stacks
+use Rattle.laws.proofs.Stacks as Stacks
 
 -- ---- the powers are 1, 2, 4, .. up to the first that is at least R
 pub powers-reach : (R : ℕ) → UpTo R 1 (powers R)
@@ -105,7 +109,7 @@ reached-determinant = Ended.reached-determinant
 -- so the definition's walk ends exactly if no pair falls: where the round at such a triangle was answered and none of the pairs fell it ends there, and it ends there only so;
 -- else it steps by one that fell, or refuses 9 where no step is left
 pub walk_ends : (c : Probe) (ps : List Pair) (n : ℕ) (m : Triangle) → Reached c ps n m → (fell : List Pair) (voxels : List Vector) → falling c m ps ≡ answered fell voxels → (left : ℕ) → EndsIfNoneFalls c ps left n m fell voxels
-walk_ends c ps n m r fell voxels e left = Ended.walk_ends c ps n m r e left
+walk_ends c ps n m r fell voxels e left = Ends.walk_ends c ps n m r e left
 
 -- and a walk that ends has looked at the way of each pair of its last triangle, at every power, so at the last: each voxel there is among those looked at, and empty.
 -- With a pair (k, l) the pair (l, k) takes part, so it has looked both ways

@@ -11,10 +11,10 @@ use Rattle.rules.specs.declared.Pick.{Pick}
 use Rattle.rules.specs.declared.Pick.TheVariants.{Accepted}
 use Rattle.rules.specs.Pick.{pick_of}
 use Rattle.rules.specs.TwoCalls.{check_of, walk_of, in_a_row}
-use Rattle.laws.specs.TwoCalls.{row}
+use Rattle.laws.proofs.TwoCalls.{row}
 use Rattle.slope.specs.Demands.{Inputs, pick_at, RefusedOutside, OneOf, Same, of_wedge}
-use Rattle.slope.specs.Proved.{demand-3}
-use Rattle.slope.specs.Corollary.{base-demand-3}
+use Rattle.slope.proofs.Proved.{demand-3}
+use Rattle.slope.proofs.Corollary.{base-demand-3}
 use Rattle.slope.specs.Rows.{InARow, check_refuses, walk_answers, RowOf, wedge_row, stack_row, RowDemand, TwoCalls}
 
 -- whatever the two promise, if each is the definition's answer

@@ -27,7 +27,7 @@ use Rattle.rules.specs.Lean.{is_zero, levels_of}
 use Rattle.laws.specs.Parts.{NonNegative, Positive, part, parts-by, dot-sum, dot-minus, dot-unit}
 use Rattle.laws.specs.Levels.{is-zero, above_zero, levels-of, levels-eq}
 use Rattle.laws.specs.Flat.{raised}
-use Rattle.laws.specs.Generators.{generators-in}
+use Rattle.laws.proofs.Generators.{generators-in}
 use Rattle.laws.specs.Frames.{Signs, signs-are, lay-lay, lay-dot, lay-part-high, same-frame}
 use Rattle.laws.specs.Says.{Says, says-weaker, says_map}
 use Rattle.laws.specs.Looks.{StoppedOf}
@@ -38,13 +38,13 @@ use Rattle.laws.specs.Corners.{FirstEmpty, nth, corner-inside, corner-empty, cor
 use Rattle.laws.specs.Touches.{all_take, three-remain, NextTouch, next-touch}
 use Rattle.laws.specs.Touched.{unmarked, marked-says}
 use Rattle.laws.specs.Answers.{found_of, stop_of, AnswerSays}
-use Rattle.laws.specs.Theorems.{guess-looks}
+use Rattle.laws.proofs.Theorems.{guess-looks}
 use Rattle.slope.specs.Demands.{Inputs, signs_of, apex_of, probe_at, OnSlope, of_wedge}
 use Rattle.slope.specs.Falls.{Near}
 use Rattle.slope.specs.Ideal.{ideal-steps, ideal_of}
-use Rattle.slope.specs.Picks.{upward, level-is, below, above, end-normal, end_fits, rounds-ideal, good-inputs}
+use Rattle.slope.proofs.Picks.{upward, level-is, below, above, end-normal, end_fits, rounds-ideal, good-inputs}
 use Rattle.slope.specs.Wedges.{multiple-slope}
-use Rattle.slope.specs.Proved.{is_whole, products, generate, same_whole}
+use Rattle.slope.proofs.Proved.{is_whole, products, generate, same_whole}
 use Rattle.slope.specs.Touches.{touch_at, near_at, OnLevel, NoZero, TouchOutside, TouchLevel, TouchedAs, QuickTouch}
 
 -- ---- numbers: t - z is below t, or not

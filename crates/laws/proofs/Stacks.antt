@@ -36,8 +36,9 @@ use Rattle.laws.specs.Ranges.{Between, InCube}
 use Rattle.laws.specs.Boxes.{stack-cube}
 use Rattle.laws.specs.Axes.{FellAlong, AxesOf}
 use Rattle.laws.specs.Rounds.{End, WalkFound}
-use Rattle.laws.specs.Answers.{found_of, accepted-tells}
-use Rattle.laws.specs.Handed.{walk-accepted}
+use Rattle.laws.specs.Answers.{found_of}
+use Rattle.laws.proofs.Answers.{accepted-tells}
+use Rattle.laws.proofs.Handed.{walk-accepted}
 use Rattle.laws.specs.BothWays.{turned-takes, turned-way}
 
 -- two ways that did not fall were looked at, at one power of at least M, inside the box

@@ -42,10 +42,11 @@ use Rattle.laws.specs.Ranges.{Between, InCube}
 use Rattle.laws.specs.Boxes.{look-as, solid-cube}
 use Rattle.laws.specs.Rounds.{WalkFound}
 use Rattle.laws.specs.Picks.{Accepting}
-use Rattle.laws.specs.Answers.{found_of, accepted-tells}
-use Rattle.laws.specs.Handed.{walk-accepted}
+use Rattle.laws.specs.Answers.{found_of}
+use Rattle.laws.proofs.Answers.{accepted-tells}
+use Rattle.laws.proofs.Handed.{walk-accepted}
 use Rattle.slope.specs.Demands.{Inputs, signs_of, apex_of, probe_at, powers_of, pick_at, OnSlope, Demanded}
-use Rattle.slope.specs.Proved.{demand-3}
+use Rattle.slope.proofs.Proved.{demand-3}
 use Rattle.planes.specs.Footings.{footing-by, footing-of}
 use Rattle.planes.specs.Turn.{WaysWithin}
 use Rattle.planes.specs.Faces.{found-face}

@@ -16,15 +16,17 @@ use Rattle.rules.specs.Lean.{levels_of}
 use Rattle.laws.specs.Triples.{det_of}
 use Rattle.laws.specs.Levels.{at-most-3, some-remain}
 use Rattle.laws.specs.Flat.{Flat, raised}
-use Rattle.laws.specs.Generators.{Combines, generators, Products, generators-in}
+use Rattle.laws.specs.Generators.{Combines, generators, Products}
+use Rattle.laws.proofs.Generators.{generators-in}
 use Rattle.laws.specs.Frames.{signs-are}
 use Rattle.laws.specs.Says.{Few}
 use Rattle.laws.specs.Powers.{three-most}
 use Rattle.laws.specs.Boxes.{outside-box}
-use Rattle.laws.specs.Answers.{laid_of, found_of, AnswerSays, answer-says, laid-products, laid-generated}
+use Rattle.laws.specs.Answers.{laid_of, found_of, AnswerSays, answer-says}
+use Rattle.laws.proofs.Answers.{laid-products, laid-generated}
 use Rattle.slope.specs.Demands.{Inputs, signs_of, probe_at, powers_of, pick_at, remaining_of, OnSlope, Demanded, Same, Demand3}
 use Rattle.slope.specs.Ideal.{ideal-steps, ideal_of}
-use Rattle.slope.specs.Picks.{some, few, ideally, fewest, end-even, end-normal, pick-says}
+use Rattle.slope.proofs.Picks.{some, few, ideally, fewest, end-even, end-normal, pick-says}
 use Rattle.slope.specs.Rounds.{Edge}
 use Rattle.slope.specs.Wedges.{wedge-slope}
 

@@ -35,15 +35,18 @@ use Rattle.laws.specs.Powers.{few-powers}
 use Rattle.laws.specs.PickParts.{walk-part}
 use Rattle.laws.specs.PickRule.{Passed}
 use Rattle.laws.specs.Rounds.{NextRound, WalkRefusal, WalkFound}
-use Rattle.laws.specs.BothWays.{BothWays, sides-looked}
-use Rattle.laws.specs.Answers.{steps_of, looks_of, found_of, stop_of, found-determinant, found-products, found-generated, found-signs, found-levels, found-stays}
-use Rattle.laws.specs.Handed as Handed
-use Rattle.laws.specs.Handed.{NotBegunOn, walk-accepted, walk_refused, accepted-walk}
-use Rattle.laws.specs.Row as Row
-use Rattle.laws.specs.Row.{CheckTold}
-use Rattle.laws.specs.Stacks as Stacks
+use Rattle.laws.specs.BothWays.{BothWays}
+use Rattle.laws.proofs.BothWays.{sides-looked}
+use Rattle.laws.specs.Answers.{steps_of, looks_of, found_of, stop_of, found-determinant, found-signs, found-levels, found-stays}
+use Rattle.laws.proofs.Answers.{found-products, found-generated}
+use Rattle.laws.proofs.Handed as Handed
+use Rattle.laws.specs.Handed.{NotBegunOn, accepted-walk}
+use Rattle.laws.proofs.Handed.{walk-accepted, walk_refused}
+use Rattle.laws.proofs.Row as Row
+use Rattle.laws.proofs.Row.{CheckTold}
+use Rattle.laws.proofs.Stacks as Stacks
 use Rattle.laws.specs.Beyond as Beyond
-use Rattle.laws.specs.Theorems.{refused-number}
+use Rattle.laws.proofs.Theorems.{refused-number}
 use Rattle.range.specs.Ranges.{between-naturals}
 
 -- K, the number of powers, and 2 + 6K, the most looks of a check

@@ -14,9 +14,10 @@ use Rattle.rules.specs.Walk.{Stop, powers, all_level, Probe, Found, to_the_end}
 use Rattle.rules.specs.Pick.{probe, check, pick, answer, pick_of}
 use Rattle.rules.specs.TwoCalls.{ready_start, check_answer, check_of, is_ready, walk_on, answer_from, in_a_row}
 use Rattle.laws.specs.Says.{Says}
-use Rattle.laws.specs.Checks.{CheckReady, CheckStopped, check-says}
+use Rattle.laws.specs.Checks.{CheckReady, CheckStopped}
+use Rattle.laws.proofs.Checks.{check-says}
 use Rattle.laws.specs.Answers.{stop_of}
-use Rattle.laws.specs.Handed.{ready-walks}
+use Rattle.laws.proofs.Handed.{ready-walks}
 
 -- after the voxels t the looks are counted on from their number
 answer-after : (t : List Vector) (x : Asked Stop Found) → answer_from (length t) x ≡ answer (after t x)

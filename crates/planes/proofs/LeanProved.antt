@@ -25,10 +25,10 @@ use Rattle.laws.specs.Parts.{part, part-minus, vector-by-parts, dot-sum, dot-sca
 use Rattle.laws.specs.Frames.{signs-are, lay-minus}
 use Rattle.laws.specs.Powers.{last-power}
 use Rattle.laws.specs.Boxes.{look-as}
-use Rattle.laws.specs.Answers.{accepted-tells}
-use Rattle.laws.specs.Theorems.{level-both-ways, sides-both-ways}
+use Rattle.laws.proofs.Answers.{accepted-tells}
+use Rattle.laws.proofs.Theorems.{level-both-ways, sides-both-ways}
 use Rattle.slope.specs.Demands.{Inputs, signs_of, apex_of, pick_at, of_wedge}
-use Rattle.slope.specs.RowProved.{row_of}
+use Rattle.slope.proofs.RowProved.{row_of}
 use Rattle.planes.specs.Footings.{footing-by}
 use Rattle.planes.specs.Turn.{WaysWithin}
 use Rattle.planes.specs.Measured.{accepted-faced, accepted-face, accepted-measurable}

@@ -24,7 +24,8 @@ use Rattle.laws.specs.Frames.{Signs, signs-are, lay-lay, lay-scale, dot-apex, la
 use Rattle.laws.specs.Says.{Says, Few, says-weaker}
 use Rattle.laws.specs.Looks.{Fell, StoppedOf}
 use Rattle.laws.specs.Next.{LevelsAnswered, Reached}
-use Rattle.laws.specs.Axes.{FellAlong, AxisOf, AxesOf, levels-answered, AxisRule, axes-says}
+use Rattle.laws.specs.Axes.{FellAlong, AxisOf, AxesOf, levels-answered, AxisRule}
+use Rattle.laws.proofs.Axes.{axes-says}
 use Rattle.laws.specs.Powers.{powers-reach, up-to-reaches, looks-add-up}
 use Rattle.laws.specs.Walks.{walk-says}
 use Rattle.laws.specs.Boxes.{look-as}

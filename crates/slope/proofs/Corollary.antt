@@ -24,14 +24,14 @@ use Rattle.laws.specs.Levels.{above_zero}
 use Rattle.laws.specs.Generators.{Combines, generators, two-sides}
 use Rattle.laws.specs.Frames.{signs-are, lay-lay, lay-part-zero, same-frame}
 use Rattle.range.specs.Ranges.{between-yes}
-use Rattle.laws.specs.Theorems.{base-products}
+use Rattle.laws.proofs.Theorems.{base-products}
 use Rattle.slope.specs.Demands as Demands
 use Rattle.slope.specs.Demands.{Inputs, signs_of, powers_of, pick_at, remaining_of, of_wedge, AcceptedWith}
 use Rattle.slope.specs.Base as Base
 use Rattle.slope.specs.Base.{Permitted, Direction, OnSlope, OnWedge, Demanded, Demand3}
-use Rattle.slope.specs.Picks.{few}
+use Rattle.slope.proofs.Picks.{few}
 use Rattle.slope.specs.Wedges.{wedge-slope}
-use Rattle.slope.specs.Proved.{demand-3, two-picks}
+use Rattle.slope.proofs.Proved.{demand-3, two-picks}
 
 -- ---- what the base assumes is what document 02 assumes
 from-1 : (reach : ℤ) → T (between (pos 3) reach (pos 256)) → T (between (pos 1) reach (pos 256))
