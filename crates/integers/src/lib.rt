@@ -1,3 +1,2 @@
-#![tactic(auto)]
-
 // Laws of the integers, all in specs/: no code.
+#![tactic(auto)]

@@ -1,3 +1,2 @@
-#![tactic(auto)]
-
 // What holds of document 01's definitions on every solid, in specs/. There is no code here.
+#![tactic(auto)]

@@ -1,4 +1,6 @@
 // A number in a range.
+#![tactic(auto)]
+
 ghost use Rattle.std.specs.Prelude.{◌≡◌};
 ghost use Rattle.rules.specs.Solids.{between};
 

@@ -1,4 +1,5 @@
 // The types that document 01's definitions, in `specs/`, and the code above them share. There is no code here.
+#![tactic(auto)]
 
 // A vector, a voxel or a place. The panel's C interface has it as it is.
 #[repr(C)]

@@ -1,4 +1,6 @@
 // Stacks: how many bytes they take, which are permitted, and which voxels are filled.
+#![tactic(auto)]
+
 ghost use Rattle.std.specs.Prelude.{◌≡◌};
 ghost use Rattle.rules.specs.Solids.{stack_bytes, permitted_stack};
 ghost use Rattle.stack.specs.Sides.{Side, SidesOf, sizes_permitted};
