@@ -5,7 +5,7 @@
 //!   compare --repeat KIND SEED INDEX   one case again
 //!
 //! The library's calls are made by the program that ULGENZHIR_BRIDGE names (target/tests/bridge),
-//! sessions by the one that ULGENZHIR_WEDGE names (target/bin/wedge), both under the emulator
+//! sessions by the one that ULGENZHIR_WEDGE names (crates/wedge/out/wedge), both under the emulator
 //! ULGENZHIR_RUN if there is one. It runs at the top of the repository.
 
 #[path = "../shared/answers.rs"]

@@ -11,7 +11,7 @@ use std::io::{ErrorKind, Read, Seek, Write};
 use std::process::{Child, ChildStdin, Command, Stdio};
 
 fn wedge() -> Command {
-    program("ULGENZHIR_WEDGE", "target/bin/wedge")
+    program("ULGENZHIR_WEDGE", "crates/wedge/out/wedge")
 }
 
 fn started(command: &mut Command) -> Result<Child, String> {
