@@ -1,4 +1,4 @@
--- Keeping the lighter pair is document 01's choice: strictly inside is a smaller weight, since the triangle's determinant is 1. While none fell every pair is lighter, since a triangle within 1023 has no weight so high.
+-- The weight of a choice, and what is kept of one pair more. A triangle within 1023 has no weight so high as that of no pair.
 use Rattle.std.specs.Prelude.{◌≡◌, Bool, ℕ, ◌≤◌, ◌<◌, ℤ, ◌<ℤ◌}
 use Rattle.std.proofs.Math.Path.{sym, ap}
 use Rattle.std.proofs.Common.{◌∙◌, arith}
@@ -33,24 +33,5 @@ pub record Preferred (m : Triangle) (sofar : Best) (y : ℕ) (r : Best) : Type 0
   pub weighs : Weighs m r
 
 module _ {m : Triangle} (s : Sound m) where
-  weight-below : (x : Pair) → weight m x <ℤ no_weight
+  pub weight-below : (x : Pair) → weight m x <ℤ no_weight
   weight-below x = let h = weight-fits m (all-bounded s) x in omega (arith, parts, sizes)
-
-  -- a lighter pair is the better one
-  lighter-better : (c : Choice) (x : Pair) → better m c x ≡ elim (lt_z (weight m x) (best_weight m c)) [ true ↦ Chosen x | false ↦ c ]
-  unfolding better
-  lighter-better Nothing x = rw (less (weight m x) no_weight (weight-below x))
-  lighter-better (Chosen y) x = rw (inside-by-weight m s.unimodular y x, better)
-
-  module _ {y : ℕ} (n : y < 6) where
-    lighter-preferred : {sofar : Best} → Weighs m sofar → Preferred m sofar y (lighter sofar (best_of y (weight m (pair_at y))))
-    unfolding lighter
-    lighter-preferred {sofar} h = go (lt_z (weight m (pair_at y)) sofar.weight) (lighter-better (choice_of sofar.pair) (pair_at y) ∙ ap (λ (w : ℤ). elim (lt_z (weight m (pair_at y)) w) [ true ↦ Chosen (pair_at y) | false ↦ choice_of sofar.pair ]) (sym h.weighs))
-      where
-        go : (b : Bool) → better m (choice_of sofar.pair) (pair_at y) ≡ elim b [ true ↦ Chosen (pair_at y) | false ↦ choice_of sofar.pair ] → Preferred m sofar y (elim b [ true ↦ best_of y (weight m (pair_at y)) | false ↦ sofar ])
-        go true i = record { is = chosen_at y n ∙ sym i; weighs = record { numbered = omega arith; weighs = rw (chosen_at y n) } }
-        go false i = record { is = sym i; weighs = h }
-
-    -- as the code comes to it
-    pub prefers : {sofar next r : Best} {w : ℤ} → Weighs m sofar → w ≡ weight m (pair_at y) → next ≡ best_of y w → r ≡ lighter sofar next → Preferred m sofar y r
-    prefers h e p q = rw (q, p, e) (lighter-preferred h)

@@ -33,7 +33,8 @@ use Rattle.falls.specs.Falls.{falls_tally, falls_looks, Fallen}
 use Rattle.choice.specs.declared.Best.{Best}
 use Rattle.choice.specs.Best.{best_of, pair_at, choice_of, none_best, lighter}
 use Rattle.choice.specs.Sound.{Sound}
-use Rattle.choice.specs.Lighter.{Weighs, prefers}
+use Rattle.choice.specs.Lighter.{Weighs}
+use Rattle.choice.proofs.Lighter.{prefers}
 use Rattle.round.specs.Corners.{index, corner_at, triangle_in, Ranked, way-laid, weight-laid}
 use Rattle.round.specs.Round.{round_tally, round_looks, Weighed, taking, asks_bit, Skips, weighing, rest, settled, WayAsked, RoundAsked}
 use Rattle.round.specs.declared.Round.{Round}
