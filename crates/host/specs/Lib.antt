@@ -1,10 +1,5 @@
--- `Demands`, `Touches`, `Rows` and `Leans` are definitions; `Proved`, `TouchProved`, `RowProved` and `LeanProved` show that demand 3, what is wanted of touches, the two calls in a row, the known lean
--- and the firm footing reach the host.
+-- What a host has of demand 3, of what is wanted of touches, of the two calls in a row, of the known lean and of the firm footing: definitions. `proofs/` has the proofs.
 pub mod Demands
-pub mod Proved
 pub mod Touches
-pub mod TouchProved
 pub mod Rows
-pub mod RowProved
 pub mod Leans
-pub mod LeanProved

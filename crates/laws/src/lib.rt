@@ -1,2 +1,2 @@
-// What holds of document 01's definitions on every solid, in specs/. There is no code here.
+// What holds of document 01's definitions on every solid, in `specs/` and `proofs/`. There is no code here.
 #![tactic(auto)]

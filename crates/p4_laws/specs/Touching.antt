@@ -1,16 +1,15 @@
 -- Document 02's 2026-02 in its own words: a comment may begin at once where white space is required, and its line end is that white space.
 -- A # has a first line end behind it or none, and the bytes up to there are passed over one by one. Behind it a gap goes on as it does
 -- behind a comment after white space.
-use Rattle.std.specs.Prelude.{◌≡◌, Bool, not, ◌&&◌, List, [], ◌∷◌, ℕ, zero, suc, ◌+◌, ◌-◌, ◌≤◌, ◌<◌, leb, length, get_or, drop}
+use Rattle.std.specs.Prelude.{◌≡◌, Bool, not, List, [], ◌∷◌, ℕ, zero, suc, ◌+◌, ◌-◌, ◌≤◌, ◌<◌, length, get_or, drop}
 use Rattle.std.proofs.Math.Path.{refl, ap}
-use Rattle.std.proofs.Common.{sym, subst, ◌∙◌, arith, drop_of_length-le, drop-drop}
+use Rattle.std.proofs.Common.{sym, subst, ◌∙◌, arith, drop_of_length-le}
 use Rattle.std.proofs.Math.Bool.{true, false}
 use Rattle.std.proofs.Math.Dec.{eqb}
-use borrow.Author.Tests.{lt-ltb, eqb-true, eqb-false}
-use Rattle.rules.specs.P4.{good, wrong, ◌>>=◌, judge, stands, magic, is_end, is_white, comment_at, white, mix, digits_at, field_at, header_at}
-use Rattle.p4_laws.specs.Judging.{on, pass}
+use borrow.Author.Tests.{eqb-true, eqb-false}
+use Rattle.rules.specs.P4.{good, wrong, is_end, comment_at, white, mix}
 use Rattle.text.specs.Places.{drop_here}
-use Rattle.p4_laws.specs.Scans.{mix-in, mix-hash, comment-end, comment-more}
+use Rattle.p4_laws.specs.Scans.{mix-in, comment-end, comment-more}
 use Rattle.p4_laws.specs.White.{there, comment-reads, Ends, comment-ends}
 
 -- a comment that begins at a place and is open up to another: # there, and no line end behind it
@@ -110,31 +109,3 @@ comment-once (b ∷ l) at {i} e = by (is_end b) refl (comment-once l (at + 1))
         let k = (subst (Ends l (at + 1)) c (comment-ends l (at + 1))).0 in
         let m : suc (i - (at + 1)) ≡ i - at = omega arith in
         mix-in b l at ∙ ap (λ (x : Bool). mix (not x) l (at + 1)) t ∙ h c ∙ ap (λ (x : ℕ). mix false (drop x (b ∷ l)) i) m
-
--- so the rest of a gap is the same behind a comment that touches as behind that comment after white space
-pub touching-gap : {s : List ℕ} {at end : ℕ} → Touching s at end → mix false (drop at s) at ≡ mix false (drop (end + 1) s) (end + 1)
-unfolding is_white is_end
-touching-gap {s} {at} {end} T =
-    let h = T.runs.hash in
-    let b = T.behind in
-    let l = there s at (λ z. omega arith) in
-    let n : at + (end + 1 - at) ≡ end + 1 = omega arith in
-    let e : is_end (get_or s at 0) ≡ false = ap is_end h in
-    ap (λ (x : List ℕ). mix false x at) (drop_here s at l)
-    ∙ mix-hash (get_or s at 0) (drop (at + 1) s) at (ap is_white h) h
-    ∙ sym (mix-in (get_or s at 0) (drop (at + 1) s) at ∙ ap (λ (x : Bool). mix (not x) (drop (at + 1) s) (at + 1)) e)
-    ∙ ap (λ (x : List ℕ). mix true x at) (sym (drop_here s at l))
-    ∙ comment-once (drop at s) at (sym (comment-reads s at h) ∙ touching-reads T)
-    ∙ ap (λ (x : List ℕ). mix false x (end + 1)) (drop-drop (end + 1 - at) at s ∙ ap (λ (x : ℕ). drop x s) n)
-
--- after the magic: width and height follow the comment
-pub after-magic : (s : List ℕ) (at : ℕ) {end : ℕ} → stands magic (drop at s) ≡ true → Touching s (at + 2) end
-    → header_at s at ≡ (field_at 256 23 s (end + 1) >>= λ width. field_at 256 23 s width.next >>= λ height. good (record { width = width.value; height = height.value; next = height.next }))
-unfolding header_at
-after-magic s at m T = pass 21 at _ m ∙ on _ (touching-reads T)
-
--- after the width or the height: the number is judged once the line end was seen, and the gap's rest, or the rows, begin past it
-pub after-number : (most number : ℕ) (s : List ℕ) (at : ℕ) {first value past end : ℕ} → mix false (drop at s) at ≡ first → digits_at 0 (drop first s) first ≡ (value, past) → first < past → Touching s past end
-    → field_at most number s at ≡ (judge (leb 1 value && leb value most) number first >>= λ _. good (record { value = value; next = end + 1 }))
-unfolding field_at
-after-number most number s at {first} {past = past} m d l T = rw m (rw d (pass 22 first _ (lt-ltb first past l) ∙ on _ (touching-reads T)))

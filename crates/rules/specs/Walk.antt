@@ -189,7 +189,7 @@ unfoldable pub first_free : Triangle → List Pair → List Pair → Choice
 first_free m falling [] = Nothing
 first_free m falling (x ∷ xs) = elim (any_inside m x falling) [ false ↦ Chosen x | true ↦ first_free m falling xs ]
 
--- the first falling pair whose sphere has no other falling candidate strictly inside. Nothing only if none falls, at every triangle that a walk meets: theorem `Walk-Ends`
+-- the first falling pair whose sphere has no other falling candidate strictly inside. Nothing only if none falls, at every triangle that a walk meets: theorem `walk_ends`
 unfoldable pub choice : Triangle → List Pair → Choice
 choice m falling = first_free m falling falling
 

@@ -1,2 +1,2 @@
-// Demand 3, over document 01's definitions, in specs/. There is no code here.
+// Demand 3, over document 01's definitions: the statements in `specs/`, the proofs in `proofs/`. There is no code here.
 #![tactic(auto)]

@@ -23,7 +23,7 @@ use Rattle.flat.specs.declared.FlatCheck.{FlatCheck}
 use Rattle.flat.specs.Flat.{flat_pick, flat_check, ready_of}
 use Rattle.flat.specs.Handed.{ready-back}
 use Rattle.host.specs.Demands.{Called, wedge_called, stack_called}
-use Rattle.host.specs.Proved.{called, one-call, two-calls}
+use Rattle.host.proofs.Proved.{called, one-call, two-calls}
 use Rattle.host.specs.Rows.{refusal_of, FlatRow, check_refuses, walk_answers, RowCalled, wedge_row, stack_row, CheckCalled, wedge_checked, stack_checked, Lit, NotLit, HostRowDemand, HostTwoCalls}
 
 module _ (solid : Solid) (bytes : List ℕ) (p : Vector) (frame reach : ℤ) where

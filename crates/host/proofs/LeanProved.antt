@@ -32,8 +32,8 @@ use Rattle.flat.specs.Flat.{flat_pick, handed_pick, ready_of, flat_lean, flat_fi
 use Rattle.flat.specs.Handed.{pick-back}
 use Rattle.panel.specs.Promises.{KnewLean}
 use Rattle.host.specs.Demands.{accepted_of, Called}
-use Rattle.host.specs.Proved.{called}
-use Rattle.host.specs.RowProved.{row-called}
+use Rattle.host.proofs.Proved.{called}
+use Rattle.host.proofs.RowProved.{row-called}
 use Rattle.host.specs.Leans.{FlatLeans, FirmCalled, wedge_firmed, stack_firmed, firm_bound, FlatStands, HostLeans}
 
 -- ---- an accepted answer is the core's, flattened

@@ -14,7 +14,7 @@ use Rattle.flat.specs.declared.FlatPick.{FlatPick}
 use Rattle.flat.specs.declared.FlatTouch.{FlatTouch}
 use Rattle.flat.specs.Flat.{flat_pick, flat_touch}
 use Rattle.host.specs.Demands.{FlatSame, Called}
-use Rattle.host.specs.Proved.{called, accepted, same-flat}
+use Rattle.host.proofs.Proved.{called, accepted, same-flat}
 use Rattle.host.specs.Touches.{without_guess, FlatTouched, Marked, TouchCalled, wedge_touched, stack_touched, HostQuickTouch}
 
 touch-called : {i : Inputs} {r : FlatTouch} → TouchCalled i r → r ≡ flat_touch (touch_at i)
