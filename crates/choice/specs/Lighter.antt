@@ -1,21 +1,16 @@
 -- The weight of a choice, and what is kept of one pair more. A triangle within 1023 has no weight so high as that of no pair.
-use Rattle.std.specs.Prelude.{◌≡◌, Bool, ℕ, ◌≤◌, ◌<◌, ℤ, ◌<ℤ◌}
-use Rattle.std.proofs.Math.Path.{sym, ap}
-use Rattle.std.proofs.Common.{◌∙◌, arith}
-use Rattle.std.proofs.Math.Bool.{true, false}
-use Rattle.std.specs.Int.Signed.{lt_z}
+use Rattle.std.specs.Prelude.{◌≡◌, ℕ, ◌≤◌, ℤ, ◌<ℤ◌}
+use Rattle.std.proofs.Common.{arith}
 use Rattle.integers.specs.Order.{parts}
 use Rattle.integers.specs.Sizes.{sizes}
 use Rattle.rules.specs.declared.Triangle.{Triangle}
 use Rattle.rules.specs.declared.Pair.{Pair}
 use Rattle.rules.specs.declared.Choice.{Choice}
 use Rattle.rules.specs.declared.Choice.TheVariants.{Nothing, Chosen}
-use Rattle.laws.specs.Tests.{less}
-use Rattle.laws.specs.Sphere.{weight, inside-by-weight, weight-fits}
+use Rattle.laws.specs.Sphere.{weight, weight-fits}
 use Rattle.laws.specs.Choosing.{better}
 use Rattle.choice.specs.declared.Best.{Best}
-use Rattle.choice.specs.Best.{best_of, pair_at, choice_of, no_weight, lighter}
-use Rattle.choice.specs.Numbers.{chosen_at}
+use Rattle.choice.specs.Best.{pair_at, choice_of, no_weight}
 use Rattle.choice.specs.Sound.{Sound, all-bounded}
 
 -- the weight of a choice

@@ -1,7 +1,6 @@
 -- What a pick with room needs: the ways of its footing lie in the normal's plane, and what lies between two points of the box lies in it.
 use Rattle.std.specs.Prelude.{◌≡◌, refl, ◌⊎◌, true, not, List, [], ◌∷◌, ℕ, T, ℤ, pos, neg_ℤ, ◌+ℤ◌, ◌-ℤ◌, ◌*ℤ◌, ◌≤ℤ◌, ◌<ℤ◌}
 use Rattle.std.proofs.Common.{sym, ap, ◌∙◌, inl, inr, arith}
-use Rattle.std.proofs.Math.Nat as NatL
 use Rattle.std.specs.Int.Signed.{le_z, lt_z}
 use Rattle.std.proofs.Math.Facts.{yes_and}
 use Rattle.integers.specs.Reify.{byring, sides}

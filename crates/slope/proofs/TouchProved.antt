@@ -1,6 +1,6 @@
 -- The quick touch on a plane's first empty level: a corner is filled exactly if n has a part along its axis, so all three are filled exactly if no axis is level; and the apex is
 -- less than 1 above the plane, so power 1 alone answers whether n·u < 0. From there the touch is the ideal walk of n, as a pick is.
-use Rattle.std.specs.Prelude.{◌≡◌, ◌⊎◌, true, false, ℕ, zero, suc, ◌+◌, ◌-◌, ◌≤◌, leb, ℤ, pos, negsuc, neg_ℤ, nat_abs, ◌+ℤ◌, ◌≤ℤ◌, ◌<ℤ◌}
+use Rattle.std.specs.Prelude.{◌≡◌, ◌⊎◌, true, false, ℕ, zero, suc, ◌+◌, ◌-◌, leb, ℤ, pos, negsuc, neg_ℤ, nat_abs, ◌+ℤ◌, ◌≤ℤ◌, ◌<ℤ◌}
 use Rattle.std.proofs.Math.Path.{refl, ap}
 use Rattle.std.proofs.Common.{sym, subst, ◌∙◌, arith, T_not, lit≤}
 use Rattle.std.proofs.Math.Logic.{inl, inr}
