@@ -1,4 +1,4 @@
--- What holds of P4 stacks. The front doors are `RoundTrips` and, for document 02's 2026-02, `Touching` and `Stays`.
+-- What holds of P4 stacks. The front doors are `RoundTrips` and, for document 02's 2026-02, `Touching` (what follows a comment: `proofs/Touching`) and `Stays`.
 pub mod Judging
 pub mod Stores
 pub mod Rows

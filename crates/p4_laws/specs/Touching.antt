@@ -1,6 +1,6 @@
 -- Document 02's 2026-02 in its own words: a comment may begin at once where white space is required, and its line end is that white space.
 -- A # has a first line end behind it or none, and the bytes up to there are passed over one by one. Behind it a gap goes on as it does
--- behind a comment after white space.
+-- behind a comment after white space: `proofs/Touching`.
 use Rattle.std.specs.Prelude.{◌≡◌, Bool, not, List, [], ◌∷◌, ℕ, zero, suc, ◌+◌, ◌-◌, ◌≤◌, ◌<◌, length, get_or, drop}
 use Rattle.std.proofs.Math.Path.{refl, ap}
 use Rattle.std.proofs.Common.{sym, subst, ◌∙◌, arith, drop_of_length-le}
