@@ -1,13 +1,13 @@
 -- A scene's lines: the question along them may be asked, both ways, and they have the unit vector, laid in, and minus it.
-use Rattle.std.specs.Prelude.{◌≡◌, refl, List, ℕ, ◌*◌, ◌<◌, ℤ, neg_ℤ}
+use Rattle.std.specs.Prelude.{◌≡◌, refl, List, ℕ, ◌*◌, ℤ, neg_ℤ}
 use Rattle.std.proofs.Common.{sym, ap, subst, ◌∙◌, inl, inr, lit≤}
 use Rattle.integers.specs.Sizes.{Within, within-is, within_wider, within-product}
 use Rattle.rules.specs.Vectors.{minus, scale, dot, lay}
+use Rattle.rules.specs.declared.Axis.{Axis}
 use Rattle.rules.specs.Walk.{unit}
 use Rattle.laws.specs.Bounds.{Bounded}
 use Rattle.laws.specs.Frames.{IsSign}
 use Rattle.laws.specs.Parts.{part, part_of, dot-minus}
-use Rattle.axis.specs.Axes.{axis_at}
 use Rattle.axis.specs.Along.{unit-bounded, laid-along, turned-along, laid-back, dot-along}
 use Rattle.solid.specs.declared.Grid.{Grid}
 use Rattle.solid.specs.Grid.{ranks_of, side_at}
@@ -18,19 +18,17 @@ use Rattle.falls.specs.Sizes.{scene-rank, sign-bounded}
 use Rattle.along.specs.declared.Line.{Line}
 use Rattle.along.specs.Lines.{line, line_of, turned_line, way_along, Along, LineOf, LineIn}
 
-pub line-is : {i a b : ℕ} {x y s t r u : ℤ} → a ≡ b → x ≡ y → s ≡ t → r ≡ u → line i a x s r ≡ line i b y t u
-line-is {i} e f g h = λ j. line i (e j) (f j) (g j) (h j)
+pub line-is : {k : Axis} {a b : ℕ} {x y s t r u : ℤ} → a ≡ b → x ≡ y → s ≡ t → r ≡ u → line k a x s r ≡ line k b y t u
+line-is {k} e f g h = λ j. line k (e j) (f j) (g j) (h j)
 
 sign-turned : (z : ℤ) → IsSign z → IsSign (neg_ℤ z)
 sign-turned z (inl e) = inr (ap neg_ℤ e)
 sign-turned z (inr e) = inl (ap neg_ℤ e)
 
 module _ {v : Scene} where
-  line-of-along : {bytes : List ℕ} (i : ℕ) → Ready v bytes → i < 3 → Along v (line_of v i)
-  line-of-along i h low =
-      let k = axis_at i in
+  line-of-along : {bytes : List ℕ} (k : Axis) → Ready v bytes → Along v (line_of v k)
+  line-of-along k h =
       record {
-        low = low;
         side = ap (λ (g : Grid). side_at g k) h.gridded;
         from = refl;
         sign = part_of h.signed k;
@@ -45,7 +43,7 @@ module _ {v : Scene} where
     pub way-bounded : Along v l → Bounded 2046 (way_along l)
     unfolding scale
     way-bounded a =
-        let u = unit-bounded (axis_at l.axis) in
+        let u = unit-bounded l.axis in
         let s = step-within a in
         record { in-x = within_wider (within-product s u.in-x) (lit≤ tt); in-y = within_wider (within-product s u.in-y) (lit≤ tt); in-z = within_wider (within-product s u.in-z) (lit≤ tt) }
 
@@ -56,31 +54,27 @@ module _ {v : Scene} where
     line-fits h a = (within_wider (step-within a) (lit≤ tt), within_wider (rise-within h a) (lit≤ tt))
 
     pub line-along : {bytes : List ℕ} → Ready v bytes → LineIn v l → Along v l
-    line-along h i = subst (Along v) (sym i.is) (line-of-along l.axis h i.low)
+    line-along h i = subst (Along v) (sym i.is) (line-of-along l.axis h)
 
     pub turned-line : Along v l → Along v (turned_line l)
     turned-line a =
-        let u = unit (axis_at l.axis) in
+        let u = unit l.axis in
         record {
-          low = a.low;
           side = a.side;
           from = a.from;
           sign = sign-turned l.step a.sign;
           rise = ap neg_ℤ a.rise ∙ sym (dot-minus (ranks_of v.solid) (scale l.step u)) ∙ ap (dot (ranks_of v.solid)) (sym (turned-along u l.step));
         }
 
-    pub line-axis : {i : ℕ} → LineOf v i l → l.axis ≡ i
-    line-axis e = ap (λ (m : Line). m.axis) e.is
+    pub line-in : {k : Axis} → LineOf v k l → LineIn v l
+    line-in e = record { is = e.is ∙ ap (line_of v) (sym (ap (λ (m : Line). m.axis) e.is)) }
 
-    pub line-in : {i : ℕ} → i < 3 → LineOf v i l → LineIn v l
-    line-in low e = record { low = subst (λ n. n < 3) (sym (line-axis e)) low; is = e.is ∙ ap (line_of v) (sym (line-axis e)) }
-
-    stepped : LineIn v l → l.step ≡ part (axis_at l.axis) v.signs
+    stepped : LineIn v l → l.step ≡ part l.axis v.signs
     stepped i = ap (λ (m : Line). m.step) i.is
 
     -- a line's vector is the unit vector laid in, its opposite's is minus it
-    pub way-laid : LineIn v l → way_along l ≡ lay v.signs (unit (axis_at l.axis))
-    way-laid i = ap (λ (z : ℤ). scale z (unit (axis_at l.axis))) (stepped i) ∙ laid-along v.signs (axis_at l.axis)
+    pub way-laid : LineIn v l → way_along l ≡ lay v.signs (unit l.axis)
+    way-laid i = ap (λ (z : ℤ). scale z (unit l.axis)) (stepped i) ∙ laid-along v.signs l.axis
 
-    pub way_back : LineIn v l → way_along (turned_line l) ≡ lay v.signs (minus (unit (axis_at l.axis)))
-    way_back i = ap (λ (z : ℤ). scale (neg_ℤ z) (unit (axis_at l.axis))) (stepped i) ∙ laid-back v.signs (axis_at l.axis)
+    pub way_back : LineIn v l → way_along (turned_line l) ≡ lay v.signs (minus (unit l.axis))
+    way_back i = ap (λ (z : ℤ). scale (neg_ℤ z) (unit l.axis)) (stepped i) ∙ laid-back v.signs l.axis

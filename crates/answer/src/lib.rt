@@ -6,76 +6,67 @@ ghost use Rattle.rules.specs.Session.{word, three, counts, told, told_accepted, 
 ghost use Rattle.answer.specs.Wrote.{Space, Wrote};
 
 use rules::{Accepted, Pick, Refused, Vector};
+use text::Writer;
 
-fn put_word(out: &mut [u8], at: usize, z: i32) -> usize
-    requires { Space 12 out.old at }
-    ensures { Wrote 12 out.old at (word z) out.new result }
+fn put_word(out: &mut Writer, z: i32)
+    requires { Space 12 out.old }
+    ensures { Wrote 12 out.old (word z) out.new }
 {
-    let to = text::put(out, at, b" ");
-    text::put_signed(out, to, z)
+    out.put(b" ");
+    out.put_signed(z);
 }
 
-fn put_count(out: &mut [u8], at: usize, n: u32) -> usize
-    requires { Space 11 out.old at }
-    ensures { Wrote 11 out.old at (word (pos n)) out.new result }
+fn put_count(out: &mut Writer, n: u32)
+    requires { Space 11 out.old }
+    ensures { Wrote 11 out.old (word (pos n)) out.new }
 {
-    let to = text::put(out, at, b" ");
-    text::put_number(out, to, n)
+    out.put(b" ");
+    out.put_number(n);
 }
 
-fn put_three(out: &mut [u8], at: usize, v: Vector) -> usize
-    requires { Space 36 out.old at }
-    ensures { Wrote 36 out.old at (three v) out.new result }
+fn put_three(out: &mut Writer, v: Vector)
+    requires { Space 36 out.old }
+    ensures { Wrote 36 out.old (three v) out.new }
 {
-    let x = v.x;
-    let y = v.y;
-    let z = v.z;
-    let second = put_word(out, at, x);
-    let third = put_word(out, second, y);
-    put_word(out, third, z)
+    put_word(out, v.x);
+    put_word(out, v.y);
+    put_word(out, v.z);
 }
 
-fn put_counts(out: &mut [u8], at: usize, steps: u32, looks: u32) -> usize
-    requires { Space 23 out.old at }
-    ensures { Wrote 23 out.old at (counts steps looks) out.new result }
+fn put_counts(out: &mut Writer, steps: u32, looks: u32)
+    requires { Space 23 out.old }
+    ensures { Wrote 23 out.old (counts steps looks) out.new }
 {
-    let second = put_count(out, at, steps);
-    let end = put_count(out, second, looks);
-    text::put(out, end, b"\n")
+    put_count(out, steps);
+    put_count(out, looks);
+    out.put(b"\n");
 }
 
-fn put_accepted(out: &mut [u8], at: usize, a: Accepted) -> usize
-    requires { Space 60 out.old at }
-    ensures { Wrote 60 out.old at (told_accepted a) out.new result }
+fn put_accepted(out: &mut Writer, a: Accepted)
+    requires { Space 60 out.old }
+    ensures { Wrote 60 out.old (told_accepted a) out.new }
 {
-    let normal = a.normal;
-    let steps = a.steps;
-    let looks = a.looks;
-    let first = text::put(out, at, b"N");
-    let second = put_three(out, first, normal);
-    put_counts(out, second, steps, looks)
+    out.put(b"N");
+    put_three(out, a.normal);
+    put_counts(out, a.steps, a.looks);
 }
 
-fn put_refused(out: &mut [u8], at: usize, r: Refused) -> usize
-    requires { Space 71 out.old at }
-    ensures { Wrote 71 out.old at (told_refused r) out.new result }
+fn put_refused(out: &mut Writer, r: Refused)
+    requires { Space 71 out.old }
+    ensures { Wrote 71 out.old (told_refused r) out.new }
 {
-    let number = r.number;
-    let place = r.place;
-    let steps = r.steps;
-    let looks = r.looks;
-    let first = text::put(out, at, b"R");
-    let second = put_count(out, first, number);
-    let third = put_three(out, second, place);
-    put_counts(out, third, steps, looks)
+    out.put(b"R");
+    put_count(out, r.number);
+    put_three(out, r.place);
+    put_counts(out, r.steps, r.looks);
 }
 
-pub fn put_answer(out: &mut [u8], at: usize, p: Pick) -> usize
-    requires { Space 71 out.old at }
-    ensures { Wrote 71 out.old at (told p) out.new result }
+pub fn put_answer(out: &mut Writer, p: Pick)
+    requires { Space 71 out.old }
+    ensures { Wrote 71 out.old (told p) out.new }
 {
     match p {
-        Pick::Accepted(a) => put_accepted(out, at, a),
-        Pick::Refused(r) => put_refused(out, at, r),
+        Ok(a) => put_accepted(out, a),
+        Err(r) => put_refused(out, r),
     }
 }

@@ -5,7 +5,9 @@ use Rattle.integers.specs.Reify.{byring, sides}
 use Rattle.integers.specs.Sizes.{Within}
 use Rattle.rules.specs.declared.Vector.{Vector}
 use Rattle.rules.specs.Vectors.{◌⊕◌, ◌⊖◌, minus, scale, dot, lay}
-use Rattle.rules.specs.Walk.{Axis, axis0, axis1, axis2, unit}
+use Rattle.rules.specs.declared.Axis.{Axis}
+use Rattle.rules.specs.declared.Axis.TheVariants.{Axis0 as axis0, Axis1 as axis1, Axis2 as axis2}
+use Rattle.rules.specs.Walk.{unit}
 use Rattle.laws.specs.Bounds.{Bounded}
 use Rattle.laws.specs.Frames.{lay-minus}
 use Rattle.laws.specs.Parts.{part, part-minus, part-scale, vector-by-parts, vector-eq, dot-scale, dot-unit}

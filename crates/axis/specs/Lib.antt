@@ -1,4 +1,3 @@
--- The axes by their numbers, and what goes along one.
+-- What goes along an axis.
 pub mod Axes
-pub mod Numbers
 pub mod Along

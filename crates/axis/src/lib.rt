@@ -1,55 +1,42 @@
-// An axis by its number: its unit vector, a vector's part along it, and the vector with another part there.
+// What goes along an axis: one of three by the axis, its unit vector, a vector's part there, and the vector with another part.
 #![tactic(auto)]
 
-ghost use Rattle.std.specs.Prelude.{◌≡◌, ◌<◌};
+ghost use Rattle.std.specs.Prelude.{◌≡◌};
 ghost use Rattle.rules.specs.Walk.{unit};
 ghost use Rattle.laws.specs.Parts.{part};
-ghost use Rattle.axis.specs.Axes.{axis_at, with_part};
+ghost use Rattle.axis.specs.Axes.{choose, with_part};
 
-use rules::Vector;
+use rules::{Axis, Vector};
 
-// With no branch.
-pub fn unit_of(axis: u32) -> Vector
-    requires { axis < 3 }
-    ensures { result ≡ unit (axis_at axis) }
+// The one of the axis, of one each for axis 0, 1, 2.
+pub fn choose<T: Copy>(axis: Axis, x: T, y: T, z: T) -> T
+    ensures { result ≡ choose axis x y z }
 {
-    let x = (axis == 0) as i32;
-    let y = (axis == 1) as i32;
-    let z = (axis == 2) as i32;
-    Vector { x: x, y: y, z: z }
+    match axis {
+        Axis::Axis0 => x,
+        Axis::Axis1 => y,
+        Axis::Axis2 => z,
+    }
 }
 
-pub fn part_of(v: Vector, axis: u32) -> i32
-    requires { axis < 3 }
-    ensures { result ≡ part (axis_at axis) v }
+pub fn unit_of(axis: Axis) -> Vector
+    ensures { result ≡ unit axis }
 {
-    if axis == 0 {
-        return v.x;
-    }
-    if axis == 1 { v.y } else { v.z }
+    with_part(Vector { x: 0, y: 0, z: 0 }, axis, 1)
 }
 
-pub fn with_part(v: Vector, axis: u32, z: i32) -> Vector
-    requires { axis < 3 }
-    ensures { result ≡ with_part v (axis_at axis) z }
+pub fn part_of(v: Vector, axis: Axis) -> i32
+    ensures { result ≡ part axis v }
 {
-    if axis == 0 {
-        return Vector {
-            x: z,
-            y: v.y,
-            z: v.z,
-        };
-    }
-    if axis == 1 {
-        return Vector {
-            x: v.x,
-            y: z,
-            z: v.z,
-        };
-    }
-    Vector {
-        x: v.x,
-        y: v.y,
-        z: z,
+    choose(axis, v.x, v.y, v.z)
+}
+
+pub fn with_part(v: Vector, axis: Axis, z: i32) -> Vector
+    ensures { result ≡ with_part v axis z }
+{
+    match axis {
+        Axis::Axis0 => Vector { x: z, ..v },
+        Axis::Axis1 => Vector { y: z, ..v },
+        Axis::Axis2 => Vector { z, ..v },
     }
 }

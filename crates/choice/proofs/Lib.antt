@@ -1,3 +1,2 @@
--- Weights in 32 bits; keeping the lighter pair is document 01's choice.
-pub mod Bits
+-- Keeping the lighter pair is document 01's choice.
 pub mod Lighter

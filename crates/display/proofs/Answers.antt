@@ -2,21 +2,20 @@
 use mathlib.Core.Path.{◌≡◌, sym, ap, subst, subst₃, ◌∙◌}
 use mathlib.Core.Bool.{Bool, true, false, not, ◌&&◌}
 use mathlib.Core.Logic.{◌≢◌}
-use Prim.Native.Nat.{ℕ, ◌^◌, ◌≤◌}
-use native.Mathlib.Omega.{arith}
+use Prim.Native.Nat.{ℕ}
 use lib.Dec.{eqb}
 use lib.Ieee.{Float}
 use lib.IntN.{ℤ}
 use borrow.Author.Tests.{eq-eqb, ne_eqb}
 use mir.Syntax.{w32}
-use mir.Val.{Fits, SFits}
+use mir.Val.{SFits}
 use mir.Facts.{to_z-of_z}
 use Rattle.integers.specs.Tests.{not-second}
 use Rattle.rules.specs.declared.Light.{Light}
-use Rattle.rules.specs.declared.Display.{Display}
-use Rattle.rules.specs.declared.Display.TheVariants.{Lit, Unlit}
+use Rattle.rules.specs.Answers.{Display, refused_input}
+use Rattle.std.specs.Prelude.{Ok as Lit}
 use Rattle.rules.specs.Display.{squares, component, permitted_normal, light, display, DisplayPromise}
-use Rattle.display.specs.Parts.{in_range, Part, Sized, Shown, Parts}
+use Rattle.display.specs.Parts.{in_range, Shown, Parts}
 use Rattle.display.specs.Permitted.{permitted-parts}
 use Rattle.display.proofs.Bits.{read_back}
 
@@ -24,12 +23,6 @@ abbrev light-of : Float → Float → Float → Light
 light-of a b c = record { x = a; y = b; z = c }
 
 -- ---- `lit`
-pub sum_fits : {s : ℕ} {x y z : ℤ} → Parts s x y z → Fits w32 s
-sum_fits P = let h = P.first.small in record { fits = omega arith }
-
-pub sized-back : {s one : ℕ} {n : ℤ} → SFits w32 n → Part s n → one ≤ 2 ^ 49 → Sized s one (read_back n)
-sized-back {s} b P h = record { part = subst (Part s) (sym (to_z-of_z b)) P; one-small = h }
-
 module _ {x y z : ℤ} (p : SFits w32 x) (q : SFits w32 y) (r : SFits w32 z) where
   pub lit_is : {s : ℕ} {a b c : Float} → Parts s x y z → Shown s (read_back x) a → Shown s (read_back y) b → Shown s (read_back z) c → light-of a b c ≡ light x y z
   unfolding light
@@ -47,16 +40,16 @@ unfolding permitted_normal
 permitted x y z e some h = ap (λ (b : Bool). not b && (in_range x && (in_range y && in_range z))) (ne_eqb (squares x y z) 0 (λ f. some (e ∙ f))) ∙ h
 
 module _ {x y z : ℤ} {s : ℕ} (e : s ≡ squares x y z) where
-  dark : permitted_normal x y z ≡ false → DisplayPromise x y z (Unlit 30)
+  dark : permitted_normal x y z ≡ false → DisplayPromise x y z (refused_input 30)
   unfolding display
   dark h = record { is = rw (h, display) }
 
-  pub dark-zero : s ≡ 0 → DisplayPromise x y z (Unlit 30)
+  pub dark-zero : s ≡ 0 → DisplayPromise x y z (refused_input 30)
   unfolding permitted_normal
   dark-zero h = dark (ap (λ (b : Bool). not b && (in_range x && (in_range y && in_range z))) (eq-eqb (squares x y z) 0 (sym e ∙ h)))
 
   module _ {t : Bool} (k : t ≡ (in_range x && (in_range y && in_range z))) where
-    pub dark-outside : t ≡ false → DisplayPromise x y z (Unlit 30)
+    pub dark-outside : t ≡ false → DisplayPromise x y z (refused_input 30)
     unfolding permitted_normal
     dark-outside h = dark (not-second (not (eqb (squares x y z) 0)) (sym k ∙ h))
 

@@ -6,34 +6,23 @@ use native.Mathlib.Omega.{arith}
 use lib.IntN.{ℤ, pos, negsuc}
 use lib.Signed.{lt_z}
 use lib.Ieee.{Float, binary32, round, div, neg, of_bits, fin}
-use mir.Syntax.{w32, w64}
-use mir.Val.{Fits, SFits}
+use mir.Syntax.{w32}
+use mir.Val.{SFits}
 use mir.Facts.{to_z-of_z}
 use Rattle.integers.specs.Order.{parts}
 use Rattle.integers.specs.Machine.{lt_yes, lt_no}
 use Rattle.rules.specs.Display.{square, largest, size_of, component, is_negative}
-use Rattle.display.specs.Parts.{Square, Part, Within, From, Size, Whole, Shown}
+use Rattle.display.specs.Parts.{Square, Size, Whole, Shown}
 use Rattle.display.specs.Roots.{largest-within}
 use Rattle.display.specs.Floats.{divided}
 use Rattle.display.proofs.Bits.{read_back}
-use Rattle.display.proofs.Roots.{from_low}
 
-module _ {s r : ℕ} {n : ℤ} (b : SFits w32 n) (P : Part s n) (Q : Square (read_back n) r) where
-  is-square : r ≡ square n
-  is-square = Q.is ∙ ap square (to_z-of_z b)
-
-  pub target_fits : Fits w64 (r * 1073741824)
-  target_fits = let e = is-square in let h = P.part in let k = P.small in record { fits = omega arith }
-
-  pub root-asks : {m : ℕ} → Within s (r * 1073741824) m → From s (r * 1073741824) m
-  root-asks W = let e = is-square in let h = P.part in let l = P.some in from_low P.small (omega arith) W.low
-
-  pub size_is : {m : ℕ} → m ≡ largest s (r * 1073741824) 32768 → Size s n m
-  unfolding size_of
-  size_is e = record {
-    is = e ∙ ap (λ (q : ℕ). largest s (q * 1073741824) 32768) is-square;
-    within = rw e (largest-within s (r * 1073741824) 32768);
-  }
+pub size_is : {s r m : ℕ} {n : ℤ} → SFits w32 n → Square (read_back n) r → m ≡ largest s (r * 1073741824) 32768 → Size s n m
+unfolding size_of
+size_is {s} {r} {m} {n} b Q e = record {
+  is = e ∙ ap (λ (q : ℕ). largest s (q * 1073741824) 32768) (Q.is ∙ ap square (to_z-of_z b));
+  within = rw e (largest-within s (r * 1073741824) 32768);
+}
 
 negative : (n : ℤ) → lt_z n (pos 0) ≡ true → is_negative n ≡ true
 negative (pos k) e = let h = lt_yes (pos k) (pos 0) e in absurd (omega (arith, parts))

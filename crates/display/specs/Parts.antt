@@ -21,11 +21,6 @@ pub record Sum (S : ℕ) : Type 0 where
   pub some : 0 < S
   pub small : S ≤ 3139587
 
--- small enough for m·m·S to fit
-pub record Small (S m : ℕ) : Type 0 where
-  pub small : S ≤ 3139587
-  pub bound : m ≤ 32769
-
 -- m is not too large
 pub record Within (S t m : ℕ) : Type 0 where
   pub low : m * m * S ≤ t
@@ -36,11 +31,6 @@ pub record From (S t m : ℕ) : Type 0 where
   pub bound : m ≤ 32768
   pub low : m * m * S ≤ t
   pub high : t < 32769 * 32769 * S
-
--- n's square is part of S, and one, a guess at the size of 1 in parts of 2^30, is small enough for n times one to fit
-pub record Sized (S one : ℕ) (n : ℤ) : Type 0 where
-  pub part : Part S n
-  pub one-small : one ≤ 2 ^ 49
 
 -- m is the size of n's component, in parts of 32768
 pub record Size (S : ℕ) (n : ℤ) (m : ℕ) : Type 0 where

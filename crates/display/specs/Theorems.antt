@@ -6,8 +6,8 @@ use Rattle.std.specs.Float.{fin}
 use Rattle.std.specs.Float.Ieee.{binary32, round}
 use Rattle.std.specs.Float.Ieee.Exact.{HasValue}
 use Rattle.rules.specs.declared.Light.{Light}
-use Rattle.rules.specs.declared.Display.{Display}
-use Rattle.rules.specs.declared.Display.TheVariants.{Lit, Unlit}
+use Rattle.rules.specs.Answers.{Display, refused_input}
+use Rattle.std.specs.Prelude.{Ok as Lit}
 use Rattle.rules.specs.Display.{square, squares, largest, size_of, is_negative, component, permitted_normal, light, display, DisplayPromise}
 use Rattle.display.specs.Parts.{Part}
 use Rattle.display.specs.Roots.{square-mono, largest-low, largest-within, largest-above}
@@ -93,7 +93,7 @@ permitted-is-lit x y z e =
     (rw (e, display), record { first = displayed P.first; second = displayed P.second; third = displayed P.third })
 
 -- any other is refused with 30
-pub other-is-refused : (x y z : ℤ) → permitted_normal x y z ≡ false → display x y z ≡ Unlit 30
+pub other-is-refused : (x y z : ℤ) → permitted_normal x y z ≡ false → display x y z ≡ refused_input 30
 unfolding display
 other-is-refused x y z e = rw (e, display)
 

@@ -3,14 +3,14 @@
 
 ghost use Rattle.std.specs.Prelude.{◌≡◌, ◌&&◌, ◌*◌, ◌^◌, ◌≤◌, ◌<◌, nat_abs};
 ghost use Rattle.rules.specs.Display.{squares, largest, light, DisplayPromise};
-ghost use Rattle.display.specs.Parts.{in_range, Square, Sum, Small, Within, From, Sized, Size, Whole, Shown, Parts};
+ghost use Rattle.display.specs.Parts.{in_range, Square, Sum, Within, From, Part, Size, Whole, Shown, Parts};
 
-use rules::{Display, Light};
+use rules::{Display, Light, Refusal, RefusedInput};
 
 fn square(n: i32) -> u64
     ensures { Square n result }
 {
-    let size = size::size_of(n) as u64;
+    let size = n.unsigned_abs() as u64;
     size * size
 }
 
@@ -30,16 +30,13 @@ fn all_in_range(x: i32, y: i32, z: i32) -> bool
 }
 
 // 3 in parts of 2^58.
-const THREE: u64 = 864691128455135232;
+const THREE: u64 = 3 << 58;
 
 // 3 less the product, from parts of 2^58 to parts of 2^30; 0 if there is nothing left.
 fn left_of_three(product: u64) -> u32
     ensures { result ≤ 3221225472 }
 {
-    if product < THREE {
-        return ((THREE - product) >> 28) as u32;
-    }
-    0
+    (THREE.saturating_sub(product) >> 28) as u32
 }
 
 // A step of Newton's towards 1/√w, all in parts of 2^30: y·(3 - w·y·y)/2.
@@ -69,56 +66,73 @@ fn size_of_one(s: u32) -> u64
     (root + 64) << half
 }
 
-// About the size of n. Nothing is proved of how near it is: a worse guess takes longer.
-fn guess(one: u64, n: i32) -> u32
-    requires { nat_abs n * one < 2 ^ 64 }
-    ensures { result ≤ 32768 }
-{
-    let m = ((size::size_of(n) as u64) * one) >> 30;
-    if m < 32768 {
-        return m as u32;
+// A sum of squares that is permitted, and about the size of 1 over it, in parts of 2^30.
+#[derive(Clone, Copy)]
+struct Scale {
+    sum: u32,
+    one: u64,
+    ghost permitted: { Sum sum },
+    ghost one_small: { one ≤ 2 ^ 49 },
+}
+
+impl Scale {
+    // About the size of n. Nothing is proved of how near it is: a worse guess takes longer.
+    fn guess(self, n: i32) -> u32
+        requires { Part self.sum n }
+        ensures { result ≤ 32768 }
+    {
+        ((n.unsigned_abs() as u64 * self.one) >> 30).min(32768) as u32
     }
-    32768
-}
 
-fn square_times(s: u32, m: u32) -> u64
-    requires { Small s m }
-    ensures { result ≡ m * m * s }
-{
-    ((m * m) as u64) * (s as u64)
-}
-
-// A guess that is too large, lowered until it is not.
-fn lowered(s: u32, t: u64, guess: u32) -> u32
-    requires { Small s guess }
-    ensures { Within s t result }
-{
-    let mut m = guess;
-    while t < square_times(s, m) {
-        m -= 1;
+    // m·m times the sum.
+    fn square_times(self, m: u32) -> u64
+        requires { m ≤ 32769 }
+        ensures { result ≡ m * m * self.sum }
+    {
+        (m * m) as u64 * self.sum as u64
     }
-    m
-}
 
-// The largest m with m·m·s at most t, from one that is not too large.
-fn root(s: u32, t: u64, from: u32) -> u32
-    requires { From s t from }
-    ensures { result ≡ largest s t 32768 }
-{
-    let mut m = from;
-    while square_times(s, m + 1) <= t {
-        m += 1;
+    // A guess that is too large, lowered until it is not.
+    fn lowered(self, t: u64, guess: u32) -> u32
+        requires { guess ≤ 32769 }
+        ensures { Within self.sum t result }
+    {
+        let mut m = guess;
+        while t < self.square_times(m) {
+            m -= 1;
+        }
+        m
     }
-    m
-}
 
-fn size_over(s: u32, one: u64, n: i32) -> u32
-    requires { Sized s one n }
-    ensures { Size s n result }
-{
-    let t = square(n) * 1073741824;
-    let m = lowered(s, t, guess(one, n));
-    root(s, t, m)
+    // The largest m with m·m times the sum at most t, from one that is not too large.
+    fn root(self, t: u64, from: u32) -> u32
+        requires { From self.sum t from }
+        ensures { result ≡ largest self.sum t 32768 }
+    {
+        let mut m = from;
+        while self.square_times(m + 1) <= t {
+            m += 1;
+        }
+        m
+    }
+
+    fn size_over(self, n: i32) -> u32
+        requires { Part self.sum n }
+        ensures { Size self.sum n result }
+    {
+        let t = square(n) * (1 << 30);
+        let m = self.lowered(t, self.guess(n));
+        self.root(t, m)
+    }
+
+    // m/32768, which a float holds exactly, with the sign of n.
+    fn shown(self, n: i32) -> f32
+        requires { Part self.sum n }
+        ensures { Shown self.sum n result }
+    {
+        let m = whole(self.size_over(n));
+        if n < 0 { m / -32768.0 } else { m / 32768.0 }
+    }
 }
 
 fn whole(m: u32) -> f32
@@ -128,37 +142,36 @@ fn whole(m: u32) -> f32
     m as f32
 }
 
-// m/32768, which a float holds exactly, with the sign of n.
-fn shown(s: u32, one: u64, n: i32) -> f32
-    requires { Sized s one n }
-    ensures { Shown s n result }
-{
-    let m = whole(size_over(s, one, n));
-    if n < 0 { m / -32768.0 } else { m / 32768.0 }
-}
-
 fn lit(s: u64, x: i32, y: i32, z: i32) -> Light
     requires { Parts s x y z }
     ensures { result ≡ light x y z }
 {
     let sum = s as u32;
-    let one = size_of_one(sum);
-    let a = shown(sum, one, x);
-    let b = shown(sum, one, y);
-    let c = shown(sum, one, z);
-    Light { x: a, y: b, z: c }
+    let scale = Scale {
+        sum,
+        one: size_of_one(sum),
+    };
+    Light {
+        x: scale.shown(x),
+        y: scale.shown(y),
+        z: scale.shown(z),
+    }
 }
+
+// All three are zero, or one is out of range.
+const REFUSED: RefusedInput = RefusedInput {
+    number: Refusal::Normal as u32,
+};
 
 pub fn display_normal(x: i32, y: i32, z: i32) -> Display
     ensures { DisplayPromise x y z result }
 {
     let s = sum_of_squares(x, y, z);
     if s == 0 {
-        return Display::Unlit(30);
+        return Err(REFUSED);
     }
     if all_in_range(x, y, z) {
-        let l = lit(s, x, y, z);
-        return Display::Lit(l);
+        return Ok(lit(s, x, y, z));
     }
-    Display::Unlit(30)
+    Err(REFUSED)
 }

@@ -1,4 +1,4 @@
--- The normal of a sound triangle: its size, its sum as it is computed, and its level parts.
+-- The normal of a sound triangle: the size of its sum as it is computed, and of its level parts.
 use mathlib.Core.Path.{◌≡◌, ◌∙◌}
 use mathlib.Core.Bool.{Bool, true, false}
 use Prim.Native.Nat.{ℕ}
@@ -19,10 +19,6 @@ use Rattle.choice.specs.Sound.{Sound}
 use Rattle.round.specs.Corners.{laid-laid}
 
 module _ (m : Triangle) {a b c : Vector} (ea : a ≡ cross m.m0 m.m1) (eb : b ≡ cross m.m1 m.m2) (ec : c ≡ cross m.m2 m.m0) where
-  pub normal-is : {d e : Vector} → d ≡ a ⊕ b → e ≡ d ⊕ c → e ≡ normal m
-  unfolding normal
-  normal-is ed ee = ee ∙ (λ i. (ed ∙ (λ j. ea j ⊕ eb j)) i ⊕ ec i)
-
   module _ (h : Sound m) where
     pub two-fit : Bounded 1000000000 a × Bounded 1000000000 b
     two-fit = (bounded-is ea (bounded-wider (bounded-cross h.in0 h.in1) (lit≤ tt)), bounded-is eb (bounded-wider (bounded-cross h.in1 h.in2) (lit≤ tt)))

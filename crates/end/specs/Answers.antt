@@ -1,8 +1,8 @@
 -- An answer that tells what a question gives is the definition's.
 use Rattle.std.specs.Prelude.{◌≡◌, refl, ℕ}
 use Rattle.std.proofs.Common.{sym, ap, ◌∙◌, arith}
-use Rattle.rules.specs.declared.Pick.{Pick}
-use Rattle.rules.specs.declared.Pick.TheVariants.{Accepted, Refused as IsRefused}
+use Rattle.rules.specs.Answers.{Pick}
+use Rattle.std.specs.Prelude.{Ok as Accepted, Err as IsRefused}
 use Rattle.rules.specs.Asked.{Asked, answered, refused}
 use Rattle.rules.specs.Walk.{Stop, Found}
 use Rattle.rules.specs.Pick.{accepted_answer, refused_answer, answer}

@@ -2,7 +2,7 @@
 use Rattle.std.specs.Prelude.{◌≡◌, ℕ}
 use Rattle.std.proofs.Common.{sym}
 use Rattle.rules.specs.declared.Levels.{Levels}
-use Rattle.rules.specs.declared.Pick.{Pick}
+use Rattle.rules.specs.Answers.{Pick}
 use Rattle.rules.specs.Walk.{Probe}
 use Rattle.laws.specs.Tally.{gives-settled}
 use Rattle.end.specs.End.{WalkedToEnd}

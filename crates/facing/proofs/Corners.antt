@@ -1,59 +1,74 @@
 -- The corners, one by one: a filled one goes on to the next, one that isn't is refusal 11, and after a refusal none is asked.
-use mathlib.Core.Path.{◌≡◌, refl, sym, ap, ◌∙◌}
-use mathlib.Core.List.{[]}
-use Prim.Native.Nat.{ℕ, ◌+◌, ◌≤◌}
-use native.Mathlib.Omega.{arith}
-use lib.Dec.{lit≤}
-use mir.Syntax.{w32}
-use mir.Val.{Fits}
+use Rattle.std.specs.Prelude.{◌≡◌, refl, List, [], ◌∷◌, ℕ, zero, suc, ◌+◌, ◌≤◌, ◌<◌, Ok as Clear, Err as IsRefused, slice_index_or}
+use Rattle.std.proofs.Common.{sym, ap, ◌∙◌, arith}
+use Rattle.std.proofs.Math.ListN.{drop, drop_of_length-le}
 use Rattle.rules.specs.declared.Vector.{Vector}
 use Rattle.rules.specs.declared.Look.{Look}
 use Rattle.rules.specs.declared.Look.TheVariants.{Filled, Empty, Outside}
 use Rattle.rules.specs.declared.Refused.{Refused}
-use Rattle.rules.specs.Vectors.{◌⊕◌, minus, lay, unit0, unit1, unit2}
-use Rattle.rules.specs.Walk.{Stop, stop, Probe, corner, corners_filled}
-use Rattle.laws.specs.Tally.{Tally, yes, no, Countable, then-yes, then-no, asked-yes, asked-no, ensured, not-ensured, at_once, filled-there, empty-there, outside-there}
+use Rattle.rules.specs.declared.Axis.{Axis}
+use Rattle.rules.specs.declared.Axis.TheVariants.{Axis0 as axis0, Axis1 as axis1, Axis2 as axis2}
+use Rattle.rules.specs.Vectors.{◌⊕◌, minus, lay}
+use Rattle.rules.specs.Walk.{stop, all_axes, unit, Probe, corner, corners_filled}
+use Rattle.laws.specs.Tally.{tally, then-yes, then-no, asked-yes, asked-no, ensured, not-ensured, at_once, filled-there, empty-there, outside-there}
 use Rattle.refusals.specs.Refusals.{refusal_of}
-use Rattle.facing.specs.declared.Cleared.{Cleared}
-use Rattle.facing.specs.declared.Cleared.TheVariants.{Clear, Refused as IsRefused}
-use Rattle.facing.specs.Facing.{cleared_tally, cleared_looks, rest, CornerAt, CornerAsked, CornersAsked}
+use Rattle.facing.specs.Facing.{Cleared, cleared_looks, rest, CornerAt, CornerAsked, CornersAsked}
 
 -- ---- where it is
-pub is-corner : {q s e u p : Vector} → u ≡ lay s (minus e) → p ≡ q ⊕ u → CornerAt q s e p
-is-corner a i = record { is = rw (← a) i }
+pub is-corner : {q s e m u p : Vector} → m ≡ minus e → u ≡ lay s m → p ≡ q ⊕ u → CornerAt q s e p
+is-corner m a i = record { is = rw (← m, ← a) i }
 
 -- ---- one corner, after n looks
-pub corner-after : {c : Probe} {e : Vector} {before : Cleared} {r : Refused} → before ≡ IsRefused r → CornerAsked c e before (IsRefused r)
-corner-after i = record { is = λ es. rw i refl; few = omega (arith, ap cleared_looks i) }
-
 seen-there : (c : Probe) {e place : Vector} {a k : Look} → CornerAt c.apex c.signs e place → a ≡ c.look place → a ≡ k → c.look (corner c e) ≡ k
 seen-there c at h j = ap c.look (sym at.is) ∙ sym h ∙ j
 
-module _ {c : Probe} {e place : Vector} {before : Cleared} {n : ℕ} {a : Look} (i : before ≡ Clear n) (at : CornerAt c.apex c.signs e place) (h : a ≡ c.look place) where
-  pub corner-outside : {r : Refused} → a ≡ Outside → r ≡ refusal_of 8 place 0 n → CornerAsked c e before (IsRefused r)
+module _ {c : Probe} {e place : Vector} {n : ℕ} {a : Look} (at : CornerAt c.apex c.signs e place) (h : a ≡ c.look place) where
+  pub corner-outside : {r : Refused} → a ≡ Outside → r ≡ refusal_of 8 place 0 n → CornerAsked c e n (IsRefused r)
   unfolding corners_filled
-  corner-outside j f = record { is = λ es. rw (f, i, at.is) (then-no _ (asked-no 0 (outside-there c.look n (corner c e) (seen-there c at h j)))).is; few = omega (arith, ap cleared_looks i, ap (λ (r : Refused). r.looks) f) }
+  corner-outside j f = record { is = λ es. rw (f, at.is) (then-no _ (asked-no 0 (outside-there c.look n (corner c e) (seen-there c at h j)))).is; few = omega (arith, ap (λ (r : Refused). r.looks) f) }
 
-  pub corner-empty : {r : Refused} → a ≡ Empty → r ≡ refusal_of 11 place 0 (n + 1) → CornerAsked c e before (IsRefused r)
+  pub corner-empty : {r : Refused} → a ≡ Empty → r ≡ refusal_of 11 place 0 (n + 1) → CornerAsked c e n (IsRefused r)
   unfolding corners_filled
-  corner-empty j f = record { is = λ es. rw (f, i, at.is) (then-yes _ (asked-yes 0 (empty-there c.look n (corner c e) (seen-there c at h j))) (then-no _ (not-ensured refl))).is; few = omega (arith, ap cleared_looks i, ap (λ (r : Refused). r.looks) f) }
+  corner-empty j f = record { is = λ es. rw (f, at.is) (then-yes _ (asked-yes 0 (empty-there c.look n (corner c e) (seen-there c at h j))) (then-no _ (not-ensured refl))).is; few = omega (arith, ap (λ (r : Refused). r.looks) f) }
 
-  pub corner-filled : a ≡ Filled → CornerAsked c e before (Clear (n + 1))
+  pub corner-filled : a ≡ Filled → CornerAsked c e n (Clear (n + 1))
   unfolding corners_filled
-  corner-filled j = record { is = λ es. rw i (then-yes _ (asked-yes 0 (filled-there c.look n (corner c e) (seen-there c at h j))) (then-yes _ (ensured (stop 11 (corner c e) 0) refl) (record { is = refl }))).is; few = omega (arith, ap cleared_looks i) }
+  corner-filled j = record { is = λ es. (then-yes _ (asked-yes 0 (filled-there c.look n (corner c e) (seen-there c at h j))) (then-yes _ (ensured (stop 11 (corner c e) 0) refl) (record { is = refl }))).is; few = omega arith }
 
-pub more-fits : {before : Cleared} {n k : ℕ} → before ≡ Clear n → Countable 1 (cleared_looks before) → k ≤ 512 → Fits w32 (n + k)
-more-fits i h l = record { fits = omega (arith, h, l, ap cleared_looks i) }
-
-pub ruleset counting = (more-fits, lit≤)
-
-pub ruleset asking-corner = (corner-after, corner-outside, corner-empty, corner-filled)
+pub ruleset asking-corner = (corner-outside, corner-empty, corner-filled)
 
 -- ---- all three
-none_left : (c : Probe) (x : Tally Stop (Unit {0})) → rest c [] x ≡ x
-unfolding corners_filled
-none_left c (yes t n) = sym (at_once {n = n} {a = tt}).is
-none_left c (no r n) = refl
+abbrev corners : List Vector
+corners = unit axis0 ∷ unit axis1 ∷ unit axis2 ∷ []
 
-pub three-corners : {c : Probe} {looks : ℕ} {a b r : Cleared} → CornerAsked c unit0 (Clear looks) a → CornerAsked c unit1 a b → CornerAsked c unit2 b r → CornersAsked c looks r
-three-corners {c} {r = r} x y z = record { gives = record { is = sym (none_left c (cleared_tally r)) ∙ z.is _ ∙ y.is _ ∙ x.is _ }; few = omega (arith, x.few, y.few, z.few) }
+corners-from : (k : Axis) (i : ℕ) → i < 3 → drop i corners ≡ unit (slice_index_or all_axes i k) ∷ drop (i + 1) corners
+corners-from k zero l = refl
+corners-from k (suc zero) l = refl
+corners-from k (suc (suc zero)) l = refl
+corners-from k (suc (suc (suc i))) l = absurd (omega (arith, l))
+
+-- before the corner of the number i, after n looks: the corners from here on give what all give
+pub record Asking (c : Probe) (looks i n : ℕ) : Type 0 where
+  pub few : n ≤ looks + i
+  pub rest : tally n (corners_filled c (drop i corners)) ≡ tally looks (corners_filled c corners)
+
+module _ {c : Probe} {looks : ℕ} where
+  pub asking-begins : Asking c looks 0 looks
+  asking-begins = record { few = omega arith; rest = refl }
+
+  module _ {i n : ℕ} (h : Asking c looks i n) where
+    pub asking-ends : 3 ≤ i → i ≤ 3 → CornersAsked c looks (Clear n)
+    unfolding corners_filled
+    asking-ends l m = record { gives = record { is = at_once.is ∙ ap (λ (es : List Vector). tally n (corners_filled c es)) (sym (drop_of_length-le corners l)) ∙ h.rest }; few = omega (arith, h.few, m) }
+
+    module _ (k : Axis) {e : Vector} (l : i < 3) (u : e ≡ unit (slice_index_or all_axes i k)) {r : Cleared} (g : CornerAsked c e n r) where
+      onward : rest c (drop (i + 1) corners) r ≡ tally looks (corners_filled c corners)
+      onward = g.is (drop (i + 1) corners) ∙ ap (λ (e : Vector). tally n (corners_filled c (e ∷ drop (i + 1) corners))) u ∙ ap (λ (es : List Vector). tally n (corners_filled c es)) (sym (corners-from k i l)) ∙ h.rest
+
+      pub asking-stops : {s : Refused} → r ≡ IsRefused s → CornersAsked c looks (IsRefused s)
+      asking-stops j = record { gives = record { is = rw j at onward }; few = omega (arith, h.few, g.few, l, ap cleared_looks j) }
+
+      pub asking-more : {k : ℕ} → r ≡ Clear k → Asking c looks (i + 1) k
+      asking-more j = record { few = omega (arith, h.few, g.few, ap cleared_looks j); rest = rw j at onward }
+
+pub ruleset asking = (asking-begins, asking-ends, asking-stops, asking-more)

@@ -16,7 +16,4 @@ opposite-unit h b = bounded-is b (bounded-opposite h)
 pub laid-unit : {s e u : Vector} → Signs s → Bounded 1 e → u ≡ lay s e → Bounded 1 u
 laid-unit g h a = bounded-is a (bounded-lay (signs-bounded g) h)
 
-pub laid-opposite : {s e u : Vector} → Signs s → Bounded 1 e → u ≡ lay s (minus e) → Bounded 1 u
-laid-opposite g h a = laid-unit g (bounded-opposite h) a
-
-pub ruleset fitting = (signs-bounded, unit-fits, opposite-unit, laid-unit, laid-opposite)
+pub ruleset fitting = (signs-bounded, unit-fits, opposite-unit, laid-unit)

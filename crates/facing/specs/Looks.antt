@@ -1,17 +1,22 @@
 -- The looks at p and, if p is filled, at q: what each makes of the question.
-use Rattle.std.specs.Prelude.{◌≡◌, refl, not}
+use Rattle.std.specs.Prelude.{◌≡◌, refl, not, List, ℕ, Ok as Clear, Err as IsRefused}
 use Rattle.std.proofs.Common.{sym, ◌∙◌, arith}
 use Rattle.std.proofs.Math.Path.{ap}
 use Rattle.rules.specs.declared.Vector.{Vector}
+use Rattle.rules.specs.declared.Solid.{Solid}
 use Rattle.rules.specs.declared.Look.{Look}
 use Rattle.rules.specs.declared.Look.TheVariants.{Filled, Empty, Outside}
 use Rattle.rules.specs.declared.Refused.{Refused}
+use Rattle.rules.specs.Solids.{look}
 use Rattle.rules.specs.Asked.{◌>>=◌}
 use Rattle.rules.specs.Walk.{Stop, stop, ensure, asked, look_at, Probe, facing}
 use Rattle.laws.specs.Tally.{Tally, Gives, then-yes, then-no, asked-yes, asked-no, ensured, not-ensured, filled-there, empty-there, outside-there}
 use Rattle.refusals.specs.Refusals.{refusal_of}
 use Rattle.facing.specs.Facing.{FacingAsked}
-use Rattle.facing.specs.declared.Cleared.TheVariants.{Clear, Refused as IsRefused}
+
+-- a look at a body of this solid and these bytes
+pub body-look : {solid body : Solid} {bytes lent : List ℕ} (p : Vector) {a : Look} → (body ≡ solid) × (lent ≡ bytes) → a ≡ look body lent p → a ≡ look solid bytes p
+body-look p e h = rw (e.0, e.1) at h
 
 -- the look at q, once p is filled
 apex-next : (c : Probe) (p : Vector) {r : Tally Stop (Unit {0})} → c.look p ≡ Filled → Gives 1 (asked 0 (look_at c.look c.apex) >>= λ g. ensure (not g) (stop 6 c.apex 0)) r → Gives 0 (facing c p) r

@@ -1,13 +1,11 @@
 -- What `face`, `corner` and `ask_corners` ensure settles their answers: each is made again of what it tells.
-use Rattle.std.specs.Prelude.{◌≡◌, refl, ℕ}
+use Rattle.std.specs.Prelude.{◌≡◌, refl, ℕ, Ok as Clear, Err as IsRefused}
 use Rattle.std.proofs.Common.{sym, ◌∙◌}
 use Rattle.rules.specs.declared.Vector.{Vector}
 use Rattle.rules.specs.Walk.{Stop, Probe}
 use Rattle.rules.specs.Pick.{refused_answer}
 use Rattle.laws.specs.Tally.{Tally, yes, no, gives-settled}
-use Rattle.facing.specs.declared.Cleared.{Cleared}
-use Rattle.facing.specs.declared.Cleared.TheVariants.{Clear, Refused as IsRefused}
-use Rattle.facing.specs.Facing.{cleared_tally, FacingAsked, CornerAt, CornersAsked}
+use Rattle.facing.specs.Facing.{Cleared, cleared_tally, FacingAsked, CornerAt, CornersAsked}
 
 made : Tally Stop (Unit {0}) → Cleared
 made (yes t k) = Clear k

@@ -2,99 +2,65 @@
 #![tactic(auto)]
 
 ghost use Rattle.std.specs.Prelude.{◌≡◌};
-ghost use Rattle.rules.specs.Vectors.{minus, lay};
 ghost use Rattle.laws.specs.Bounds.{Bounded};
 ghost use Rattle.laws.specs.Frames.{Signs};
 ghost use Rattle.laws.specs.Tally.{Countable};
-ghost use Rattle.falls.specs.Scene.{probe_of, Ready};
-ghost use Rattle.facing.specs.Facing.{cleared_looks, FacingAsked, CornerAt, CornerAsked, CornersAsked};
+ghost use Rattle.falls.specs.Scene.{probe_of};
+ghost use Rattle.facing.specs.Facing.{FacingAsked, CornerAt, CornerAsked, CornersAsked};
 
-use falls::Scene;
-use rules::{Look, Refused, Vector};
+use falls::{Probe, Scene};
+use rules::{Axis, Look, Refusal, Refused, Vector};
 
-// No refusal so far, after so many looks; or a refusal.
-#[derive(Clone, Copy)]
-pub enum Cleared {
-    Clear(u32),
-    Refused(Refused),
-}
+// Here and below no refusal is so many looks.
 
 // Look at p, then, if p is filled, q.
-pub fn face(scene: Scene, bytes: &[u8], p: Vector) -> Cleared
-    requires { Ready scene bytes.now }
-    ensures { FacingAsked (probe_of scene bytes.now) p result }
+pub fn face(probe: &Probe, p: Vector) -> Result<u32, Refused>
+    ensures { FacingAsked (probe_of probe.now.scene probe.now.bytes.now) p result }
 {
-    let solid = scene.solid;
-    let q = scene.apex;
-    let grid = scene.grid;
-    let here = scene.here;
-    let at_start = solid::look_at(solid, grid, bytes, p);
-    match at_start {
-        Look::Outside => Cleared::Refused(refusals::refusal(8, p, 0, 0)),
-        Look::Empty => Cleared::Refused(refusals::refusal(5, p, 0, 1)),
-        Look::Filled => {
-            let at_apex = solid::look_ranked(solid, grid, bytes, q, here);
-            match at_apex {
-                Look::Outside => Cleared::Refused(refusals::refusal(8, q, 0, 1)),
-                Look::Filled => Cleared::Refused(refusals::refusal(6, q, 0, 2)),
-                Look::Empty => Cleared::Clear(2),
-            }
-        }
+    let body = probe.body();
+    let q = probe.scene.apex;
+    match body.look_at(p) {
+        Look::Outside => Err(refusals::refuse(Refusal::Edge, p, 0, 0)),
+        Look::Empty => Err(refusals::refuse(Refusal::Start, p, 0, 1)),
+        Look::Filled => match body.look_ranked(q, probe.scene.here) {
+            Look::Outside => Err(refusals::refuse(Refusal::Edge, q, 0, 1)),
+            Look::Filled => Err(refusals::refuse(Refusal::Apex, q, 0, 2)),
+            Look::Empty => Ok(2),
+        },
     }
 }
 
 // ---- the corners
-
-// Minus the unit vector e, laid in.
-fn lay_minus(s: Vector, e: Vector) -> Vector
-    requires { Signs s × Bounded 1 e }
-    ensures { result ≡ lay s (minus e) }
-{
-    space::lay(s, space::negate(e))
-}
 
 // q less the unit vector e, laid in.
 pub fn corner(scene: Scene, e: Vector) -> Vector
     requires { Bounded 1000000000 scene.apex × Signs scene.signs × Bounded 1 e }
     ensures { CornerAt scene.apex scene.signs e result }
 {
-    let q = scene.apex;
-    let s = scene.signs;
-    space::add(q, lay_minus(s, e))
+    space::add(scene.apex, space::lay(scene.signs, space::negate(e)))
 }
 
 // One corner more, q less the unit vector e: refusal 11 if it isn't filled.
-fn ask_corner(scene: Scene, bytes: &[u8], e: Vector, sofar: Cleared) -> Cleared
-    requires { Ready scene bytes.now × Bounded 1 e × Countable 1 (cleared_looks sofar) }
-    ensures { CornerAsked (probe_of scene bytes.now) e sofar result }
+fn ask_corner(probe: &Probe, e: Vector, looks: u32) -> Result<u32, Refused>
+    requires { Bounded 1 e × Countable 1 looks }
+    ensures { CornerAsked (probe_of probe.now.scene probe.now.bytes.now) e looks result }
 {
-    match sofar {
-        Cleared::Refused(r) => Cleared::Refused(r),
-        Cleared::Clear(n) => {
-            let place = corner(scene, e);
-            let solid = scene.solid;
-            let grid = scene.grid;
-            let seen = solid::look_at(solid, grid, bytes, place);
-            match seen {
-                Look::Outside => Cleared::Refused(refusals::refusal(8, place, 0, n)),
-                Look::Empty => Cleared::Refused(refusals::refusal(11, place, 0, n + 1)),
-                Look::Filled => Cleared::Clear(n + 1),
-            }
-        }
+    let place = corner(probe.scene, e);
+    match probe.body().look_at(place) {
+        Look::Outside => Err(refusals::refuse(Refusal::Edge, place, 0, looks)),
+        Look::Empty => Err(refusals::refuse(Refusal::Corner, place, 0, looks + 1)),
+        Look::Filled => Ok(looks + 1),
     }
 }
 
-// Axis 0, 1, 2.
-pub fn ask_corners(scene: Scene, bytes: &[u8], looks: u32) -> Cleared
-    requires { Ready scene bytes.now × Countable 3 looks }
-    ensures { CornersAsked (probe_of scene bytes.now) looks result }
+// Lowest first.
+pub fn ask_corners(probe: &Probe, looks: u32) -> Result<u32, Refused>
+    requires { Countable 3 looks }
+    ensures { CornersAsked (probe_of probe.now.scene probe.now.bytes.now) looks result }
 {
-    let a = ask_corner(
-        scene,
-        bytes,
-        Vector { x: 1, y: 0, z: 0 },
-        Cleared::Clear(looks),
-    );
-    let b = ask_corner(scene, bytes, Vector { x: 0, y: 1, z: 0 }, a);
-    ask_corner(scene, bytes, Vector { x: 0, y: 0, z: 1 }, b)
+    let mut n = looks;
+    for axis in [Axis::Axis0, Axis::Axis1, Axis::Axis2] {
+        n = ask_corner(probe, axis::unit_of(axis), n)?;
+    }
+    Ok(n)
 }

@@ -12,12 +12,12 @@ use Rattle.falls.specs.declared.Falls.TheVariants.{Fell, Kept, Stopped}
 abbrev pub falls_tally : Falls → Tally Vector Bool
 falls_tally (Fell n) = yes true n
 falls_tally (Kept n) = yes false n
-falls_tally (Stopped p n) = no p n
+falls_tally (Stopped o) = no o.place o.looks
 
 abbrev pub falls_looks : Falls → ℕ
 falls_looks (Fell n) = n
 falls_looks (Kept n) = n
-falls_looks (Stopped p n) = n
+falls_looks (Stopped o) = o.looks
 
 pub record Fallen (c : Probe) (u : Vector) (looks : ℕ) (r : Falls) : Type 0 where
   pub gives : Gives looks (falls c u) (falls_tally r)

@@ -1,7 +1,7 @@
 -- The falls question over any look, power by power: what each outcome of the look at l makes of the rest.
 use Rattle.std.specs.Prelude.{◌≡◌, Bool, true, false, List, [], ◌∷◌, leb, ℤ, pos, ◌+ℤ◌, ◌-ℤ◌}
 use Rattle.std.proofs.Math.Path.{refl, sym, ap}
-use Rattle.std.proofs.Common.{subst, ◌∙◌, arith, le-leb}
+use Rattle.std.proofs.Common.{◌∙◌, arith, le-leb}
 use Prim.Native.Nat.{ℕ, zero, suc, ◌+◌, ◌≤◌, ◌<◌}
 use Rattle.std.proofs.Math.Dec.{lit<, lit≤}
 use Rattle.std.proofs.lemmas.Bool.{lt-leb}
@@ -12,10 +12,9 @@ use Rattle.integers.specs.Reify.{byring, sides}
 use Rattle.rules.specs.Vectors.{◌⊕◌, ◌⊖◌, scale, dot}
 use Rattle.laws.specs.Bounds.{Bounded, bounded-is, bounded-wider, bounded-sum, bounded-difference}
 use Rattle.laws.specs.Parts.{part, part-sum, part-difference, part-scale, vector-by-parts, dot-sum, dot-difference}
-use Rattle.rules.specs.Walk.{powers_from, powers, falls_at, Probe}
+use Rattle.rules.specs.Walk.{powers_from, powers, falls_at}
 use Rattle.laws.specs.Tally.{Tally, yes, no, Gives, then-yes, then-no, at_once, filled-there, empty-there, outside-there}
 use Rattle.falls.specs.Falls.{Fallen, Falling}
-use Rattle.falls.specs.declared.Falls.{Falls}
 use Rattle.falls.specs.declared.Falls.TheVariants.{Fell, Kept, Stopped}
 
 module _ (look : Vector → Look) (q u : Vector) (span l n : ℕ) where
@@ -71,18 +70,10 @@ twice q u l = vector-by-parts (λ k. simp (part-sum, part-difference, part-scale
 once : (q u : Vector) → q ⊕ u ≡ q ⊕ scale (pos 1) u
 once q u = vector-by-parts (λ k. simp (part-sum, part-scale) (byring (part k q ∷ part k u ∷ []) (search sides depth 40 fits 5000) tt))
 
--- from q and back
-back : (q u : Vector) {at : Vector} → at ≡ q ⊕ u → at ⊖ q ≡ u
-back q u e = ap (λ (v : Vector). v ⊖ q) e ∙ vector-by-parts (λ k. simp (part-sum, part-difference) (byring (part k q ∷ part k u ∷ []) (search sides depth 40 fits 5000) tt))
-
--- the first point tells the vector that was asked
-pub fallen-back : {c : Probe} {u first : Vector} {looks : ℕ} {f : Falls} → first ≡ c.apex ⊕ u → Fallen c (first ⊖ c.apex) looks f → Fallen c u looks f
-fallen-back {c} {u} {looks = looks} {f} e h = subst (λ (v : Vector). Fallen c v looks f) (back c.apex u e) h
-
 module _ {look : Vector → Look} {r q u : Vector} {span looks : ℕ} where
-  begins : {at : Vector} {here rise rank : ℤ} → Bounded 1023 q → Bounded 2046 u → here ≡ dot r q → rise ≡ dot r u → at ≡ q ⊕ u → rank ≡ here +ℤ rise → Falling look r q u span looks 1 looks at rank
+  pub falls-begins : {at : Vector} {here rise rank : ℤ} → Bounded 1023 q → Bounded 2046 u → here ≡ dot r q → rise ≡ dot r u → at ≡ q ⊕ u → rank ≡ here +ℤ rise → Falling look r q u span looks 1 looks at rank
   unfolding powers
-  begins {at} b d h i a e = record {
+  falls-begins {at} b d h i a e = record {
     along = a ∙ once q u;
     ranked = e ∙ (λ j. h j +ℤ i j) ∙ sym (dot-sum r q u) ∙ ap (dot r) (sym a);
     sized = bounded-is a (bounded-sum b d);
@@ -94,15 +85,12 @@ module _ {look : Vector → Look} {r q u : Vector} {span looks : ℕ} where
     rest = λ g. g;
   }
 
-  pub falls-begins : {at : Vector} {here rise rank : ℤ} → Bounded 1023 q → Bounded 2046 u → here ≡ dot r q → rise ≡ dot r u → at ≡ q ⊕ u → rank ≡ here +ℤ rise → Falling look r q (at ⊖ q) span looks 1 looks at rank
-  falls-begins {at} {rank = rank} b d h i a e = subst (λ (v : Vector). Falling look r q v span looks 1 looks at rank) (sym (back q u a)) (begins b d h i a e)
-
   module _ {l n : ℕ} {at : Vector} {rank : ℤ} {k : Look} (h : Falling look r q u span looks l n at rank) (b : k ≡ look at) where
     look_is : {j : Look} → k ≡ j → look (there look q u span l n) ≡ j
     unfolding there
     look_is e = sym (ap look h.along) ∙ sym b ∙ e
 
-    pub falls-stopped : {s : Vector} → k ≡ Outside → Fallen (record { look = look; apex = q; signs = s; powers = powers span }) u looks (Stopped at n)
+    pub falls-stopped : {s : Vector} → k ≡ Outside → Fallen (record { look = look; apex = q; signs = s; powers = powers span }) u looks (Stopped (record { place = at; looks = n }))
     unfolding there
     falls-stopped e = record { gives = rw h.along (h.rest (outside-at look q u span l n h.fuel (look_is e))); few = omega (arith, h.few, h.low) }
 
@@ -133,5 +121,3 @@ module _ {look : Vector → Look} {r q u : Vector} {span looks : ℕ} where
           enough = omega (arith, h.one, h.enough, f.1);
           rest = λ g. h.rest (rw f.1 (next-at look q u span l n f.0 (look_is e) o g));
         }
-
-pub ruleset looked = (falls-stopped, falls-fell, falls-kept)

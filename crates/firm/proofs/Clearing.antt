@@ -1,37 +1,30 @@
 -- The start's refusals: 4 by the box, 5 and 6 by the looks, and what each makes of the question that follows.
-use mathlib.Core.Path.{◌≡◌, refl, sym, ap, subst, ◌∙◌}
+use mathlib.Core.Path.{◌≡◌, refl, sym, subst, ◌∙◌}
 use mathlib.Core.Bool.{Bool, true, false}
 use mathlib.Core.List.{List, []}
 use Prim.Native.Nat.{ℕ, ◌≤◌}
 use lib.Dec.{T}
+use Rattle.std.specs.Prelude.{Ok as Clear, Err as IsRefused}
 use Rattle.rules.specs.declared.Vector.{Vector}
 use Rattle.rules.specs.declared.Solid.{Solid}
 use Rattle.rules.specs.declared.Look.{Look}
 use Rattle.rules.specs.declared.Look.TheVariants.{Filled, Empty, Outside}
 use Rattle.rules.specs.declared.Refused.{Refused}
-use Rattle.rules.specs.Solids.{in_box, look}
-use Rattle.rules.specs.Pick.{is_inside}
 use Rattle.rules.specs.declared.Bound.{Bound}
+use Rattle.rules.specs.Solids.{box, in_box, look}
 use Rattle.rules.specs.Asked.{Asked, ◌>>◌}
 use Rattle.rules.specs.Walk.{Stop, Probe, facing}
+use Rattle.rules.specs.Pick.{is_inside}
 use Rattle.laws.specs.Boxes.{look-inside}
 use Rattle.laws.specs.Tally.{Gives, then-yes, then-no}
-use Rattle.solid.specs.Asks.{PermittedSolid, InBoxOf}
-use Rattle.solid.specs.declared.Grid.{Grid}
-use Rattle.solid.specs.Grid.{grid_of, sides_of}
-use Rattle.solid.specs.Ranks.{in-box-by-grid}
+use Rattle.solid.specs.Asks.{InBoxOf}
 use Rattle.refusals.specs.Refusals.{refusal_of}
-use Rattle.facing.specs.declared.Cleared.{Cleared}
-use Rattle.facing.specs.declared.Cleared.TheVariants.{Clear, Refused as IsRefused}
-use Rattle.facing.specs.Facing.{cleared_tally, cleared_looks}
+use Rattle.facing.specs.Facing.{Cleared, cleared_tally, cleared_looks}
 use Rattle.facing.specs.Looks as Looks
 use Rattle.inputs.specs.Judging.{start-outside-box, apex-outside-box, both-inside, inside_is}
 use Rattle.firm.specs.Firm.{filled_as, cleared, ClearAt, probe_at, StartFaced, StartCleared}
 
 -- ---- one look
-pub seen_as : {k j : Look} {x : Look} → k ≡ x → k ≡ j → filled_as j ≡ filled_as x
-seen_as e f = ap filled_as (sym f ∙ e)
-
 is-filled : (k : Look) → filled_as k ≡ true → k ≡ Filled
 is-filled Filled e = refl
 is-filled Empty e = absurd (subst T (sym e) tt)
@@ -61,29 +54,23 @@ module _ {solid : Solid} {bytes : List ℕ} {p q : Vector} {h : Bool} (start : I
 pub ruleset facing-start = (face-start-empty, face-apex-filled, face-both)
 
 -- ---- before them the box
-judged : {solid : Solid} {bytes : List ℕ} {grid : Grid} (p : Vector) {a t : Bool} → PermittedSolid solid bytes → grid ≡ grid_of solid → a ≡ in_box (sides_of grid) p → a ≡ t → is_inside (look solid bytes p) ≡ t
-judged {solid} {bytes} p ok hg ha e = inside_is solid bytes refl (in-box-by-grid p ok hg ha) e
-
-module _ {solid : Solid} {bytes : List ℕ} {grid : Grid} {p q : Vector} {a : Bool} (ok : PermittedSolid solid bytes) (hg : grid ≡ grid_of solid) (ha : a ≡ in_box (sides_of grid) p) where
+module _ {solid : Solid} {bytes : List ℕ} {p q : Vector} {a : Bool} (ha : a ≡ in_box (box solid) p) where
   pub clear-start-outside : {r : Refused} → a ≡ false → r ≡ refusal_of 4 p 0 0 → StartCleared solid bytes p q (IsRefused r)
-  clear-start-outside e f = record { is = λ s ls x. rw f (then-no _ (start-outside-box (probe_at solid bytes q s ls) p (judged p ok hg ha e))); place = tt }
+  clear-start-outside e f = record { is = λ s ls x. rw f (then-no _ (start-outside-box (probe_at solid bytes q s ls) p (inside_is solid bytes refl ha e))); place = tt }
 
-  module _ {b : Bool} (e : a ≡ true) (hb : b ≡ in_box (sides_of grid) q) where
+  module _ {b : Bool} (e : a ≡ true) (hb : b ≡ in_box (box solid) q) where
     pub clear-apex-outside : {r : Refused} → b ≡ false → r ≡ refusal_of 4 q 0 0 → StartCleared solid bytes p q (IsRefused r)
-    clear-apex-outside g f = record { is = λ s ls x. rw f (then-no _ (apex-outside-box (probe_at solid bytes q s ls) p (judged p ok hg ha e) (judged q ok hg hb g))); place = tt }
-
-    pub both-in-box : b ≡ true → InBoxOf solid p × InBoxOf solid q
-    both-in-box g = (record { is = sym (in-box-by-grid p ok hg ha) ∙ e }, record { is = sym (in-box-by-grid q ok hg hb) ∙ g })
+    clear-apex-outside g f = record { is = λ s ls x. rw f (then-no _ (apex-outside-box (probe_at solid bytes q s ls) p (inside_is solid bytes refl ha e) (inside_is solid bytes refl hb g))); place = tt }
 
     pub clear-faced : {r : Cleared} → b ≡ true → StartFaced solid bytes p q r → StartCleared solid bytes p q r
-    clear-faced {r} g h = record { is = λ s ls x. then-yes _ (both-inside (probe_at solid bytes q s ls) p (judged p ok hg ha e) (judged q ok hg hb g)) (next (probe_at solid bytes q s ls) r (h.is s ls).gives x); place = there r (h.is p []).few }
+    clear-faced {r} g h = record { is = λ s ls x. then-yes _ (both-inside (probe_at solid bytes q s ls) p (inside_is solid bytes refl ha e) (inside_is solid bytes refl hb g)) (next (probe_at solid bytes q s ls) r (h.is s ls).gives x); place = there r (h.is p []).few }
       where
         next : (c : Probe) (r : Cleared) → Gives 0 (facing c p) (cleared_tally r) → (x : Asked Stop (ℕ × Bound)) → Gives 0 (facing c p >> x) (cleared x (cleared_tally r))
         next c (Clear n) h x = then-yes _ h (record { is = refl })
         next c (IsRefused r) h x = then-no _ h
 
         there : (r : Cleared) → cleared_looks r ≤ 2 → ClearAt solid p r
-        there (Clear n) l = ((both-in-box g).0, l)
+        there (Clear n) l = (record { is = sym ha ∙ e }, l)
         there (IsRefused r) l = tt
 
 pub ruleset clearing = (clear-start-outside, clear-apex-outside, clear-faced)

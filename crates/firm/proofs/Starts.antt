@@ -1,32 +1,36 @@
--- The start under the apex: a number is held to 32 bits by two tests.
-use mathlib.Core.Path.{◌≡◌}
-use mathlib.Core.Bool.{true, false}
+-- The start under the apex: a number is held to 32 bits by two tests, as std's difference is.
+use mathlib.Core.Path.{◌≡◌, refl, ap, ◌∙◌}
+use mathlib.Core.Bool.{Bool, true, false}
 use native.Mathlib.Omega.{arith}
 use lib.IntN.{ℤ, pos, negsuc}
 use lib.Signed.{lt_z}
 use mir.Syntax.{w32}
-use mir.Val.{SFits}
+use Rattle.std.specs.Int.{saturate_signed}
 use Rattle.integers.specs.Order.{parts}
 use Rattle.integers.specs.Machine.{tests}
 use Rattle.rules.specs.Firm.{held}
 
-pub held_low : (z : ℤ) → lt_z z (negsuc 2147483647) ≡ true → negsuc 2147483647 ≡ held z
+held_low : (z : ℤ) → lt_z z (negsuc 2147483647) ≡ true → negsuc 2147483647 ≡ held z
 unfolding held
-held_low z e = rw (e, held)
+held_low z e = rw (e, held) refl
 
 module _ (z : ℤ) (e : lt_z z (negsuc 2147483647) ≡ false) where
-  pub held_high : lt_z (pos 2147483647) z ≡ true → pos 2147483647 ≡ held z
+  held_high : lt_z (pos 2147483647) z ≡ true → pos 2147483647 ≡ held z
   unfolding held
-  held_high f = rw (e, f, held)
+  held_high f = rw (e, f, held) refl
 
-  module _ (f : lt_z (pos 2147483647) z ≡ false) where
-    pub held_kept : z ≡ held z
-    unfolding held
-    held_kept = rw (e, f, held)
+  held_kept : lt_z (pos 2147483647) z ≡ false → z ≡ held z
+  unfolding held
+  held_kept f = rw (e, f, held) refl
 
-    pub kept-fits : SFits w32 z
-    kept-fits = go z e f
-      where
-        go : (z : ℤ) → lt_z z (negsuc 2147483647) ≡ false → lt_z (pos 2147483647) z ≡ false → SFits w32 z
-        go (pos n) e f = record { sfits = omega (arith, parts, tests) }
-        go (negsuc n) e f = record { sfits = omega (arith, parts, tests) }
+pub saturated : (z : ℤ) → saturate_signed w32 z ≡ held z
+saturated (pos n) = go (lt_z (pos 2147483647) (pos n)) refl
+  where
+    go : (b : Bool) → lt_z (pos 2147483647) (pos n) ≡ b → saturate_signed w32 (pos n) ≡ held (pos n)
+    go true e = ap pos (omega (arith, parts, tests)) ∙ held_high (pos n) refl e
+    go false e = ap pos (omega (arith, parts, tests)) ∙ held_kept (pos n) refl e
+saturated (negsuc n) = go (lt_z (negsuc n) (negsuc 2147483647)) refl
+  where
+    go : (b : Bool) → lt_z (negsuc n) (negsuc 2147483647) ≡ b → saturate_signed w32 (negsuc n) ≡ held (negsuc n)
+    go true e = ap negsuc (omega (arith, parts, tests)) ∙ held_low (negsuc n) e
+    go false e = ap negsuc (omega (arith, parts, tests)) ∙ held_kept (negsuc n) e refl

@@ -1,30 +1,26 @@
 -- A firm footing: what the start's refusals, the footing and its bound, and the whole question tell.
-use Rattle.std.specs.Prelude.{Bool, true, false, List, [], ℕ, ◌≤◌, ℤ, pos}
+use Rattle.std.specs.Prelude.{Bool, true, false, List, [], ℕ, ◌≤◌, pos}
 use Rattle.rules.specs.declared.Vector.{Vector}
 use Rattle.rules.specs.declared.Solid.{Solid}
 use Rattle.rules.specs.declared.Look.{Look}
 use Rattle.rules.specs.declared.Look.TheVariants.{Filled, Empty, Outside}
 use Rattle.rules.specs.declared.Accepted.{Accepted as AcceptedPick}
-use Rattle.rules.specs.declared.Pick.{Pick}
+use Rattle.rules.specs.Answers.{Pick, Firm}
+use Rattle.std.specs.Prelude.{Ok as Stands, Err as Refused, Ok as Clear, Err as IsRefused}
 use Rattle.rules.specs.declared.Bound.{Bound}
 use Rattle.rules.specs.declared.Footing.{Footing}
-use Rattle.rules.specs.declared.Firm.{Firm}
-use Rattle.rules.specs.declared.Firm.TheVariants.{Stands, Refused}
-use Rattle.rules.specs.Vectors.{origin}
-use Rattle.rules.specs.Solids.{permitted, look}
+use Rattle.rules.specs.Solids.{look}
 use Rattle.rules.specs.Asked.{Asked, answered, ◌>>=◌, ◌>>◌}
 use Rattle.rules.specs.Walk.{Stop, signs, powers, Probe, facing}
 use Rattle.rules.specs.Pick.{placing}
 use Rattle.rules.specs.Lean.{bound_at}
-use Rattle.rules.specs.Firm.{all_ways, footing, firm_from, start_under, firm_under, firm_on, firm}
+use Rattle.rules.specs.Firm.{all_ways, footing, firm_from, start_under, firm_under, firm_on}
 use Rattle.laws.specs.Tally.{Tally, yes, no, tally, Gives}
 use Rattle.solid.specs.Asks.{InBoxOf}
-use Rattle.refusals.specs.Refusals.{refusal_of, refusal_tally}
-use Rattle.facing.specs.declared.Cleared.{Cleared}
-use Rattle.facing.specs.declared.Cleared.TheVariants.{Clear, Refused as IsRefused}
-use Rattle.facing.specs.Facing.{cleared_tally, FacingAsked}
+use Rattle.refusals.specs.Refusals.{refusal_tally}
+use Rattle.facing.specs.Facing.{Cleared, cleared_tally, FacingAsked}
 use Rattle.footing.specs.declared.Ground.{Ground}
-use Rattle.footing.specs.Footing.{vectors_of}
+use Rattle.footing.specs.Footing.{looking, vectors_of}
 
 abbrev pub footing_tally : Footing → Tally Stop (ℕ × Bound)
 footing_tally f = yes (f.power, f.bound) f.looks
@@ -32,9 +28,6 @@ footing_tally f = yes (f.power, f.bound) f.looks
 abbrev pub firm_tally : Firm → Tally Stop (ℕ × Bound)
 firm_tally (Stands f) = footing_tally f
 firm_tally (Refused r) = refusal_tally r
-
-abbrev pub refused_with : ℕ → Firm
-refused_with number = Refused (refusal_of number origin 0 0)
 
 abbrev pub filled_as : Look → Bool
 filled_as Filled = true
@@ -65,8 +58,8 @@ module _ (solid : Solid) (bytes : List ℕ) where
     pub place : ClearAt solid p r
 
 -- ---- the footing
-pub record StoodOn (g : Ground) (bytes : List ℕ) (a : AcceptedPick) (reach looks : ℕ) (r : Footing) : Type 0 where
-  pub gives : Gives looks (firm_from (look g.solid bytes) g.start 0 (powers reach) (vectors_of g all_ways) >>= λ F. answered (F, bound_at F a) []) (footing_tally r)
+pub record StoodOn (g : Ground) (a : AcceptedPick) (reach looks : ℕ) (r : Footing) : Type 0 where
+  pub gives : Gives looks (firm_from (looking g) g.start 0 (powers reach) (vectors_of g all_ways) >>= λ F. answered (F, bound_at F a) []) (footing_tally r)
 
 module _ (solid : Solid) (bytes : List ℕ) where
   -- of an accepted answer, with the signs s: the last power from the start p, and the bound at it
@@ -81,6 +74,3 @@ module _ (solid : Solid) (bytes : List ℕ) where
 
   pub record FirmOf (pick : Pick) (frame reach : ℕ) (r : Firm) : Type 0 where
     pub gives : Gives 0 (firm_on (look solid bytes) (pos frame) (pos reach) pick) (firm_tally r)
-
-  pub record FirmOn (pick : Pick) (frame reach : ℤ) (r : Firm) : Type 0 where
-    pub gives : Gives 0 (firm (permitted solid bytes) (look solid bytes) frame reach pick) (firm_tally r)

@@ -1,205 +1,143 @@
-// How firm the footing of a pick's answer is, on a wedge and on a stack.
+// How firm the footing of a pick's answer is, on any solid.
 #![tactic(auto)]
 
-ghost use Rattle.std.specs.Prelude.{◌≡◌, true, ◌+◌, ◌≤◌, ◌-ℤ◌};
-ghost use Rattle.integers.specs.Sizes.{Within};
+ghost use Rattle.std.specs.Prelude.{◌≡◌, true, ◌+◌, ◌≤◌};
+ghost use Rattle.rules.specs.Vectors.{origin};
 ghost use Rattle.rules.specs.Solids.{look};
 ghost use Rattle.rules.specs.Lean.{measurable};
-ghost use Rattle.rules.specs.Firm.{held, start_under, WedgeFirmPromise, StackFirmPromise};
+ghost use Rattle.rules.specs.Refusals.{number_of};
+ghost use Rattle.rules.specs.Firm.{start_under, FirmPromise};
 ghost use Rattle.laws.specs.Bounds.{Bounded};
-ghost use Rattle.solid.specs.Asks.{PermittedSolid, InBoxOf};
-ghost use Rattle.solid.specs.Grid.{grid_of};
-ghost use Rattle.footing.specs.Footing.{Grounded};
-ghost use Rattle.firm.specs.Firm.{refused_with, filled_as, StartFaced, StartCleared, StoodOn, FirmFrom, FirmUnder, FirmOf, FirmOn};
+ghost use Rattle.solid.specs.Asks.{InBoxOf};
+ghost use Rattle.refusals.specs.Refusals.{refusal_of};
+ghost use Rattle.firm.specs.Firm.{filled_as, StartFaced, StartCleared, StoodOn, FirmFrom, FirmUnder, FirmOf};
 
-use facing::Cleared;
 use footing::Ground;
-use rules::{Accepted, Firm, Footing, Look, Pick, Solid, Stack, Vector, Wedge};
-use solid::Grid;
+use rules::{Accepted, Firm, Footing, Look, Pick, Refusal, Refused, Solid, Vector};
+use solid::Body;
 
 // ---- the start
 
-// x - sign, held to 32 bits.
-fn hold(x: i32, sign: i32) -> i32
-    requires { Within 1 sign }
-    ensures { result ≡ held (x -ℤ sign) }
-{
-    let z = (x as i64) - (sign as i64);
-    if z < -2147483648 {
-        return -2147483648;
-    }
-    if 2147483647 < z { 2147483647 } else { z as i32 }
-}
-
-// p = q - s. Any apex may be handed.
+// p = q - s, each part held to 32 bits: any apex may be handed.
 fn start_under(q: Vector, s: Vector) -> Vector
-    requires { Bounded 1 s }
     ensures { result ≡ start_under q s }
 {
-    let x = hold(q.x, s.x);
-    let y = hold(q.y, s.y);
-    let z = hold(q.z, s.z);
-    Vector { x: x, y: y, z: z }
+    Vector {
+        x: q.x.saturating_sub(s.x),
+        y: q.y.saturating_sub(s.y),
+        z: q.z.saturating_sub(s.z),
+    }
 }
 
 // ---- refusals
 
 // At no place, before any look.
-fn refuse(number: u32) -> Firm
-    ensures { result ≡ refused_with number }
+fn refuse(why: Refusal) -> Refused
+    ensures { result ≡ refusal_of (number_of why) origin 0 0 }
 {
-    Firm::Refused(refusals::refusal(number, Vector { x: 0, y: 0, z: 0 }, 0, 0))
+    refusals::refuse(why, Vector { x: 0, y: 0, z: 0 }, 0, 0)
 }
 
-fn is_filled(solid: Solid, grid: Grid, bytes: &[u8], v: Vector) -> bool
-    requires { PermittedSolid solid bytes.now × (grid ≡ grid_of solid) }
-    ensures { result ≡ filled_as (look solid bytes.now v) }
+fn is_filled(body: &Body, v: Vector) -> bool
+    ensures { result ≡ filled_as (look body.now.solid body.now.bytes.now v) }
 {
-    let seen = solid::look_at(solid, grid, bytes, v);
-    match seen {
-        Look::Filled => true,
-        Look::Empty => false,
-        Look::Outside => false,
-    }
+    matches!(body.look_at(v), Look::Filled)
 }
 
 // Refusal 5 after a look at p, 6 after one more at q.
-fn face(solid: Solid, grid: Grid, bytes: &[u8], p: Vector, q: Vector) -> Cleared
-    requires { PermittedSolid solid bytes.now × (grid ≡ grid_of solid) × InBoxOf solid p × InBoxOf solid q }
-    ensures { StartFaced solid bytes.now p q result }
+fn face(body: &Body, p: Vector, q: Vector) -> Result<u32, Refused>
+    requires { InBoxOf body.now.solid p × InBoxOf body.now.solid q }
+    ensures { StartFaced body.now.solid body.now.bytes.now p q result }
 {
-    if is_filled(solid, grid, bytes, p) {
-        if is_filled(solid, grid, bytes, q) {
-            Cleared::Refused(refusals::refusal(6, q, 0, 2))
-        } else {
-            Cleared::Clear(2)
-        }
-    } else {
-        Cleared::Refused(refusals::refusal(5, p, 0, 1))
+    if !is_filled(body, p) {
+        return Err(refusals::refuse(Refusal::Start, p, 0, 1));
     }
+    if is_filled(body, q) {
+        return Err(refusals::refuse(Refusal::Apex, q, 0, 2));
+    }
+    Ok(2)
 }
 
 // Refusal 4 at p, else at q, before they are looked at.
-fn clear(solid: Solid, grid: Grid, bytes: &[u8], p: Vector, q: Vector) -> Cleared
-    requires { PermittedSolid solid bytes.now × (grid ≡ grid_of solid) }
-    ensures { StartCleared solid bytes.now p q result }
+fn clear(body: &Body, p: Vector, q: Vector) -> Result<u32, Refused>
+    ensures { StartCleared body.now.solid body.now.bytes.now p q result }
 {
-    if solid::is_inside(grid, p) {
-        if solid::is_inside(grid, q) {
-            face(solid, grid, bytes, p, q)
-        } else {
-            Cleared::Refused(refusals::refusal(4, q, 0, 0))
-        }
-    } else {
-        Cleared::Refused(refusals::refusal(4, p, 0, 0))
+    if !body.is_inside(p) {
+        return Err(refusals::refuse(Refusal::Place, p, 0, 0));
     }
+    if !body.is_inside(q) {
+        return Err(refusals::refuse(Refusal::Place, q, 0, 0));
+    }
+    face(body, p, q)
 }
 
 // ---- the footing
 
 // The last power at which all ways stand, and the bound at it.
-fn stand_on(ground: Ground, bytes: &[u8], a: Accepted, reach: u32, looks: u32) -> Footing
-    requires { Grounded ground bytes.now × (measurable a ≡ true) × (reach ≤ 256) × (looks + 6144 ≤ 4294967295) }
-    ensures { StoodOn ground bytes.now a reach looks result }
+fn stand_on(ground: &Ground, a: Accepted, reach: u32, looks: u32) -> Footing
+    requires { (measurable a ≡ true) × (reach ≤ 256) × (looks + 6144 ≤ 4294967295) }
+    ensures { StoodOn ground.now a reach looks result }
 {
-    let f = footing::firm_to(ground, bytes, reach, looks);
-    let bound = lean::bound_at(f.power, a);
+    let footed = ground.firm_to(reach, looks);
     Footing {
-        power: f.power,
-        looks: f.looks,
-        bound: bound,
+        power: footed.power,
+        looks: footed.looks,
+        bound: lean::bound_at(footed.power, a),
     }
 }
 
 // Of an accepted answer that can be measured, from the start p.
-fn firm_from(
-    solid: Solid,
-    grid: Grid,
-    bytes: &[u8],
-    a: Accepted,
-    s: Vector,
-    p: Vector,
-    reach: u32,
-) -> Firm
-    requires { PermittedSolid solid bytes.now × (grid ≡ grid_of solid) × (measurable a ≡ true) × Bounded 1 s × (reach ≤ 256) }
-    ensures { FirmFrom solid bytes.now a s p reach result }
+fn firm_from(body: &Body, a: Accepted, s: Vector, p: Vector, reach: u32) -> Firm
+    requires { (measurable a ≡ true) × Bounded 1 s × (reach ≤ 256) }
+    ensures { FirmFrom body.now.solid body.now.bytes.now a s p reach result }
 {
-    let q = a.apex;
-    let m = a.triangle;
-    let level = lean::levels_of(a.normal);
-    let cleared = clear(solid, grid, bytes, p, q);
-    match cleared {
-        Cleared::Refused(r) => Firm::Refused(r),
-        Cleared::Clear(n) => {
-            let ground = Ground {
-                solid: solid,
-                grid: grid,
-                start: p,
-                signs: s,
-                triangle: m,
-                level: level,
-            };
-            Firm::Stands(stand_on(ground, bytes, a, reach, n))
-        }
-    }
+    let looks = clear(body, p, a.apex)?;
+    let ground = Ground {
+        body: *body,
+        start: p,
+        signs: s,
+        triangle: a.triangle,
+        level: lean::levels_of(a.normal),
+    };
+    Ok(stand_on(&ground, a, reach, looks))
 }
 
 // Of an accepted answer, from the start under its apex.
-fn firm_under(solid: Solid, bytes: &[u8], a: Accepted, frame: u32, reach: u32) -> Firm
-    requires { PermittedSolid solid bytes.now × (reach ≤ 256) }
-    ensures { FirmUnder solid bytes.now a frame reach result }
+fn firm_under(body: &Body, a: Accepted, frame: u32, reach: u32) -> Firm
+    requires { reach ≤ 256 }
+    ensures { FirmUnder body.now.solid body.now.bytes.now a frame reach result }
 {
-    if lean::is_measurable(a) {
-        let q = a.apex;
-        let s = inputs::signs_of(frame);
-        let p = start_under(q, s);
-        let grid = solid::grid_of(solid, bytes);
-        firm_from(solid, grid, bytes, a, s, p, reach)
-    } else {
-        refuse(35)
+    if !lean::is_measurable(a) {
+        return Err(refuse(Refusal::Measure));
     }
+    let s = inputs::signs_of(frame);
+    firm_from(body, a, s, start_under(a.apex, s), reach)
 }
 
 // A refused pick has no footing.
-fn firm_of(solid: Solid, bytes: &[u8], answer: Pick, frame: u32, reach: u32) -> Firm
-    requires { PermittedSolid solid bytes.now × (reach ≤ 256) }
-    ensures { FirmOf solid bytes.now answer frame reach result }
+fn firm_of(body: &Body, answer: Pick, frame: u32, reach: u32) -> Firm
+    requires { reach ≤ 256 }
+    ensures { FirmOf body.now.solid body.now.bytes.now answer frame reach result }
 {
     match answer {
-        Pick::Accepted(a) => firm_under(solid, bytes, a, frame, reach),
-        Pick::Refused(_) => refuse(35),
+        Ok(a) => firm_under(body, a, frame, reach),
+        Err(_) => Err(refuse(Refusal::Measure)),
     }
 }
 
 // Of any answer: refusals 1, 2 and 3 as a pick's, then 35.
-fn firm_on(solid: Solid, bytes: &[u8], answer: Pick, frame: i32, reach: i32) -> Firm
-    ensures { FirmOn solid bytes.now answer frame reach result }
+pub fn firm_solid(solid: Solid, bytes: &[u8], answer: Pick, frame: i32, reach: i32) -> Firm
+    ensures { FirmPromise solid bytes.now answer frame reach result }
 {
-    if range::is_between(1, reach, 256) {
-        if range::is_between(0, frame, 7) {
-            if solid::is_permitted(solid, bytes) {
-                firm_of(solid, bytes, answer, frame as u32, reach as u32)
-            } else {
-                refuse(3)
-            }
-        } else {
-            refuse(2)
-        }
-    } else {
-        refuse(1)
+    if !range::is_between(1, reach, 256) {
+        return Err(refuse(Refusal::Reach));
     }
-}
-
-// Of an answer on a wedge, which has no bytes.
-pub fn firm_wedge(w: Wedge, answer: Pick, frame: i32, reach: i32) -> Firm
-    ensures { WedgeFirmPromise w answer frame reach result }
-{
-    firm_on(Solid::Wedge(w), b"", answer, frame, reach)
-}
-
-// Of an answer on a stack with its lent bytes.
-pub fn firm_stack(k: Stack, bytes: &[u8], answer: Pick, frame: i32, reach: i32) -> Firm
-    ensures { StackFirmPromise k bytes.now answer frame reach result }
-{
-    firm_on(Solid::Stack(k), bytes, answer, frame, reach)
+    if !range::is_between(0, frame, 7) {
+        return Err(refuse(Refusal::Frame));
+    }
+    if !solid::is_permitted(solid, bytes) {
+        return Err(refuse(Refusal::Solid));
+    }
+    let body = solid::body_of(solid, bytes);
+    firm_of(&body, answer, frame.unsigned_abs(), reach.unsigned_abs())
 }

@@ -3,22 +3,8 @@ use Rattle.std.specs.Prelude.{pos, nat_abs, Float, eqb, Bool, true, false, ℕ, 
 use Rattle.std.specs.Float.{fin}
 use Rattle.rules.specs.declared.Levels.{Levels}
 use Rattle.rules.specs.declared.ReadyStart.{ReadyStart}
-use Rattle.rules.specs.declared.Check.{Check}
-use Rattle.rules.specs.declared.Check.TheVariants.{Ready, Refused as CheckRefused}
-use Rattle.rules.specs.declared.Pick.{Pick}
-use Rattle.rules.specs.declared.Pick.TheVariants.{Accepted, Refused}
-use Rattle.rules.specs.declared.Touch.{Touch}
-use Rattle.rules.specs.declared.Touch.TheVariants.{Guess, Refused as TouchRefused}
-use Rattle.rules.specs.declared.Lean.{Lean}
-use Rattle.rules.specs.declared.Lean.TheVariants.{Known, Unknown}
-use Rattle.rules.specs.declared.Firm.{Firm}
-use Rattle.rules.specs.declared.Firm.TheVariants.{Stands, Refused as FirmRefused}
-use Rattle.rules.specs.declared.Display.{Display}
-use Rattle.rules.specs.declared.Display.TheVariants.{Lit, Unlit}
-use Rattle.rules.specs.declared.Reading.{Reading}
-use Rattle.rules.specs.declared.Reading.TheVariants.{Read, Unread}
-use Rattle.rules.specs.declared.Writing.{Writing}
-use Rattle.rules.specs.declared.Writing.TheVariants.{Written, Unwritten}
+use Rattle.rules.specs.Answers.{Check, Pick, Touch, Lean, Firm, Display, Reading, Writing}
+use Rattle.std.specs.Prelude.{Ok as Ready, Err as CheckRefused, Ok as Accepted, Err as Refused, Ok as Guess, Err as TouchRefused, Ok as Known, Err as Unknown, Ok as Stands, Err as FirmRefused, Ok as Lit, Err as Unlit, Ok as Read, Err as Unread, Ok as Written, Err as Unwritten}
 use Rattle.rules.specs.Vectors.{origin}
 use Rattle.rules.specs.Walk.{triangle, levels}
 use Rattle.flat.specs.declared.FlatPick.{FlatPick}
@@ -79,7 +65,7 @@ with_guess guess r = record {
 }
 
 abbrev pub flat_touch : Touch → FlatTouch
-flat_touch (Guess a) = with_guess 1 (flat_pick (Accepted a))
+flat_touch (Guess g) = with_guess 1 (flat_pick (Accepted g.answer))
 flat_touch (TouchRefused r) = with_guess 0 (flat_pick (Refused r))
 
 -- ---- a ready start. Bit 0, 1, 2 of level: axis 0, 1, 2 is level
@@ -112,7 +98,7 @@ flat_check (CheckRefused r) = record { number = r.number; place = r.place; looks
 -- number 0: known. Refused: part and whole 0
 abbrev pub flat_lean : Lean → FlatLean
 flat_lean (Known b) = record { number = 0; part = b.part; whole = b.whole }
-flat_lean (Unknown n) = record { number = n; part = 0; whole = 0 }
+flat_lean (Unknown r) = record { number = r.number; part = 0; whole = 0 }
 
 -- number 0: place 0 0 0. Refused: number, place and looks, all else 0
 abbrev pub flat_firm : Firm → FlatFirm
@@ -127,14 +113,14 @@ plus_zero = fin false 0 (pos 0)
 -- number 0: lit. Refused: number 30, floats +0
 abbrev pub flat_display : Display → FlatDisplay
 flat_display (Lit l) = record { number = 0; x = l.x; y = l.y; z = l.z }
-flat_display (Unlit n) = record { number = n; x = plus_zero; y = plus_zero; z = plus_zero }
+flat_display (Unlit r) = record { number = r.number; x = plus_zero; y = plus_zero; z = plus_zero }
 
 -- number 0: sizes set, value 0. Refused: value is the number returned, sizes 0
 abbrev pub flat_reading : Reading → FlatReading
 flat_reading (Read k) = record { number = 0; value = 0; width = nat_abs k.width; height = nat_abs k.height; depth = nat_abs k.depth }
-flat_reading (Unread number value) = record { number = number; value = value; width = 0; height = 0; depth = 0 }
+flat_reading (Unread r) = record { number = r.number; value = r.value; width = 0; height = 0; depth = 0 }
 
 -- number 0: value is the bytes written; 27: bytes needed; 3: 0
 abbrev pub flat_writing : Writing → FlatWriting
 flat_writing (Written bytes) = record { number = 0; value = bytes }
-flat_writing (Unwritten number value) = record { number = number; value = value }
+flat_writing (Unwritten r) = record { number = r.number; value = r.value }

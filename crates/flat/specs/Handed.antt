@@ -3,8 +3,8 @@ use Rattle.std.specs.Prelude.{◌≡◌, refl, Bool, true, false, ◌≤◌}
 use Rattle.std.proofs.Common.{ap, arith, ne_eqb}
 use Rattle.rules.specs.declared.Levels.{Levels}
 use Rattle.rules.specs.declared.ReadyStart.{ReadyStart}
-use Rattle.rules.specs.declared.Pick.{Pick}
-use Rattle.rules.specs.declared.Pick.TheVariants.{Accepted, Refused}
+use Rattle.rules.specs.Answers.{Pick}
+use Rattle.std.specs.Prelude.{Ok as Accepted, Err as Refused}
 use Rattle.rules.specs.Walk.{levels}
 use Rattle.rules.specs.TwoCalls.{ready_start}
 use Rattle.flat.specs.Flat.{flat_pick, handed_pick, mask_of, levels_of, flat_ready, ready_of}

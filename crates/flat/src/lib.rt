@@ -105,35 +105,26 @@ pub struct FlatDisplay {
 
 // ---- answers as plain numbers
 
-pub fn flatten_pick(answer: Pick) -> FlatPick
-    ensures { result ≡ flat_pick answer }
-{
-    let none = Vector { x: 0, y: 0, z: 0 };
-    match answer {
-        Pick::Accepted(a) => {
-            let normal = a.normal;
-            let triangle = a.triangle;
-            let m0 = triangle.m0;
-            let m1 = triangle.m1;
-            let m2 = triangle.m2;
-            let apex = a.apex;
-            FlatPick {
+impl From<Pick> for FlatPick {
+    ghost from_gives = { λ answer r. r ≡ flat_pick answer };
+
+    fn from(answer: Pick) -> FlatPick {
+        let none = Vector { x: 0, y: 0, z: 0 };
+        match answer {
+            Ok(a) => FlatPick {
                 number: 0,
                 place: none,
                 steps: a.steps,
                 looks: a.looks,
-                normal: normal,
-                m0: m0,
-                m1: m1,
-                m2: m2,
-                apex: apex,
-            }
-        }
-        Pick::Refused(r) => {
-            let place = r.place;
-            FlatPick {
+                normal: a.normal,
+                m0: a.triangle.m0,
+                m1: a.triangle.m1,
+                m2: a.triangle.m2,
+                apex: a.apex,
+            },
+            Err(r) => FlatPick {
                 number: r.number,
-                place: place,
+                place: r.place,
                 steps: r.steps,
                 looks: r.looks,
                 normal: none,
@@ -141,7 +132,7 @@ pub fn flatten_pick(answer: Pick) -> FlatPick
                 m1: none,
                 m2: none,
                 apex: none,
-            }
+            },
         }
     }
 }
@@ -149,32 +140,28 @@ pub fn flatten_pick(answer: Pick) -> FlatPick
 fn with_guess(guess: u32, answer: FlatPick) -> FlatTouch
     ensures { result ≡ with_guess guess answer }
 {
-    let place = answer.place;
-    let normal = answer.normal;
-    let m0 = answer.m0;
-    let m1 = answer.m1;
-    let m2 = answer.m2;
-    let apex = answer.apex;
     FlatTouch {
         number: answer.number,
-        guess: guess,
-        place: place,
+        guess,
+        place: answer.place,
         steps: answer.steps,
         looks: answer.looks,
-        normal: normal,
-        m0: m0,
-        m1: m1,
-        m2: m2,
-        apex: apex,
+        normal: answer.normal,
+        m0: answer.m0,
+        m1: answer.m1,
+        m2: answer.m2,
+        apex: answer.apex,
     }
 }
 
-pub fn flatten_touch(answer: Touch) -> FlatTouch
-    ensures { result ≡ flat_touch answer }
-{
-    match answer {
-        Touch::Guess(a) => with_guess(1, flatten_pick(Pick::Accepted(a))),
-        Touch::Refused(r) => with_guess(0, flatten_pick(Pick::Refused(r))),
+impl From<Touch> for FlatTouch {
+    ghost from_gives = { λ answer r. r ≡ flat_touch answer };
+
+    fn from(answer: Touch) -> FlatTouch {
+        match answer {
+            Ok(g) => with_guess(1, FlatPick::from(Ok(g.answer))),
+            Err(r) => with_guess(0, FlatPick::from(Err(r))),
+        }
     }
 }
 
@@ -188,151 +175,146 @@ fn mask_of(level: Levels) -> u32
     x + 2 * y + 4 * z
 }
 
-fn flatten_ready(d: ReadyStart) -> FlatReady
-    ensures { result ≡ flat_ready d }
-{
-    let p = d.start;
-    let q = d.apex;
-    let mask = mask_of(d.level);
-    FlatReady {
-        start: p,
-        apex: q,
-        level: mask,
-        looks: d.looks,
+impl From<ReadyStart> for FlatReady {
+    ghost from_gives = { λ d r. r ≡ flat_ready d };
+
+    fn from(d: ReadyStart) -> FlatReady {
+        FlatReady {
+            start: d.start,
+            apex: d.apex,
+            level: mask_of(d.level),
+            looks: d.looks,
+        }
     }
 }
 
-pub fn flatten_check(answer: Check) -> FlatCheck
-    ensures { result ≡ flat_check answer }
-{
-    let none = Vector { x: 0, y: 0, z: 0 };
-    match answer {
-        Check::Ready(d) => {
-            let ready = flatten_ready(d);
-            FlatCheck {
+impl From<Check> for FlatCheck {
+    ghost from_gives = { λ answer r. r ≡ flat_check answer };
+
+    fn from(answer: Check) -> FlatCheck {
+        let none = Vector { x: 0, y: 0, z: 0 };
+        match answer {
+            Ok(d) => FlatCheck {
                 number: 0,
                 place: none,
                 looks: d.looks,
-                ready: ready,
-            }
-        }
-        Check::Refused(r) => {
-            let place = r.place;
-            let ready = FlatReady {
-                start: none,
-                apex: none,
-                level: 0,
-                looks: 0,
-            };
-            FlatCheck {
+                ready: d.into(),
+            },
+            Err(r) => FlatCheck {
                 number: r.number,
-                place: place,
+                place: r.place,
                 looks: r.looks,
-                ready: ready,
-            }
+                ready: FlatReady {
+                    start: none,
+                    apex: none,
+                    level: 0,
+                    looks: 0,
+                },
+            },
         }
     }
 }
 
-pub fn flatten_lean(answer: Lean) -> FlatLean
-    ensures { result ≡ flat_lean answer }
-{
-    match answer {
-        Lean::Known(b) => FlatLean {
-            number: 0,
-            part: b.part,
-            whole: b.whole,
-        },
-        Lean::Unknown(number) => FlatLean {
-            number: number,
-            part: 0,
-            whole: 0,
-        },
+impl From<Lean> for FlatLean {
+    ghost from_gives = { λ answer r. r ≡ flat_lean answer };
+
+    fn from(answer: Lean) -> FlatLean {
+        match answer {
+            Ok(b) => FlatLean {
+                number: 0,
+                part: b.part,
+                whole: b.whole,
+            },
+            Err(unknown) => FlatLean {
+                number: unknown.number,
+                part: 0,
+                whole: 0,
+            },
+        }
     }
 }
 
-pub fn flatten_firm(answer: Firm) -> FlatFirm
-    ensures { result ≡ flat_firm answer }
-{
-    match answer {
-        Firm::Stands(f) => {
-            let place = Vector { x: 0, y: 0, z: 0 };
-            let bound = f.bound;
-            FlatFirm {
+impl From<Firm> for FlatFirm {
+    ghost from_gives = { λ answer r. r ≡ flat_firm answer };
+
+    fn from(answer: Firm) -> FlatFirm {
+        match answer {
+            Ok(f) => FlatFirm {
                 number: 0,
-                place: place,
+                place: Vector { x: 0, y: 0, z: 0 },
                 power: f.power,
                 looks: f.looks,
-                part: bound.part,
-                whole: bound.whole,
-            }
-        }
-        Firm::Refused(r) => {
-            let place = r.place;
-            FlatFirm {
+                part: f.bound.part,
+                whole: f.bound.whole,
+            },
+            Err(r) => FlatFirm {
                 number: r.number,
-                place: place,
+                place: r.place,
                 power: 0,
                 looks: r.looks,
                 part: 0,
                 whole: 0,
-            }
+            },
         }
     }
 }
 
-pub fn flatten_reading(answer: Reading) -> FlatReading
-    ensures { result ≡ flat_reading answer }
-{
-    match answer {
-        Reading::Read(k) => FlatReading {
-            number: 0,
-            value: 0,
-            width: size::size_of(k.width),
-            height: size::size_of(k.height),
-            depth: size::size_of(k.depth),
-        },
-        Reading::Unread(number, n) => FlatReading {
-            number: number,
-            value: n as u64,
-            width: 0,
-            height: 0,
-            depth: 0,
-        },
+impl From<Reading> for FlatReading {
+    ghost from_gives = { λ answer r. r ≡ flat_reading answer };
+
+    fn from(answer: Reading) -> FlatReading {
+        match answer {
+            Ok(k) => FlatReading {
+                number: 0,
+                value: 0,
+                width: k.width.unsigned_abs(),
+                height: k.height.unsigned_abs(),
+                depth: k.depth.unsigned_abs(),
+            },
+            Err(r) => FlatReading {
+                number: r.number,
+                value: r.value as u64,
+                width: 0,
+                height: 0,
+                depth: 0,
+            },
+        }
     }
 }
 
-pub fn flatten_writing(answer: Writing) -> FlatWriting
-    ensures { result ≡ flat_writing answer }
-{
-    match answer {
-        Writing::Written(n) => FlatWriting {
-            number: 0,
-            value: n as u64,
-        },
-        Writing::Unwritten(number, n) => FlatWriting {
-            number: number,
-            value: n as u64,
-        },
+impl From<Writing> for FlatWriting {
+    ghost from_gives = { λ answer r. r ≡ flat_writing answer };
+
+    fn from(answer: Writing) -> FlatWriting {
+        let (number, value) = match answer {
+            Ok(bytes) => (0, bytes),
+            Err(r) => (r.number, r.value),
+        };
+        FlatWriting {
+            number,
+            value: value as u64,
+        }
     }
 }
 
-pub fn flatten_display(answer: Display) -> FlatDisplay
-    ensures { result ≡ flat_display answer }
-{
-    match answer {
-        Display::Lit(l) => FlatDisplay {
-            number: 0,
-            x: l.x,
-            y: l.y,
-            z: l.z,
-        },
-        Display::Unlit(n) => FlatDisplay {
-            number: n,
-            x: 0.0,
-            y: 0.0,
-            z: 0.0,
-        },
+impl From<Display> for FlatDisplay {
+    ghost from_gives = { λ answer r. r ≡ flat_display answer };
+
+    fn from(answer: Display) -> FlatDisplay {
+        match answer {
+            Ok(l) => FlatDisplay {
+                number: 0,
+                x: l.x,
+                y: l.y,
+                z: l.z,
+            },
+            Err(unlit) => FlatDisplay {
+                number: unlit.number,
+                x: 0.0,
+                y: 0.0,
+                z: 0.0,
+            },
+        }
     }
 }
 
@@ -342,53 +324,49 @@ pub fn flatten_display(answer: Display) -> FlatDisplay
 fn levels_of(mask: u32) -> Levels
     ensures { result ≡ levels_of mask }
 {
-    let x = mask % 2 == 1;
-    let y = mask / 2 % 2 == 1;
-    let z = mask / 4 % 2 == 1;
-    Levels { x: x, y: y, z: z }
-}
-
-pub fn ready_of(ready: FlatReady) -> ReadyStart
-    ensures { result ≡ ready_of ready }
-{
-    let p = ready.start;
-    let q = ready.apex;
-    let level = levels_of(ready.level);
-    ReadyStart {
-        start: p,
-        apex: q,
-        level: level,
-        looks: ready.looks,
+    Levels {
+        x: mask % 2 == 1,
+        y: mask / 2 % 2 == 1,
+        z: mask / 4 % 2 == 1,
     }
 }
 
-pub fn handed_pick(pick: FlatPick) -> Pick
-    ensures { result ≡ handed_pick pick }
-{
-    if pick.number == 0 {
-        let normal = pick.normal;
-        let m0 = pick.m0;
-        let m1 = pick.m1;
-        let m2 = pick.m2;
-        let apex = pick.apex;
-        let triangle = Triangle {
-            m0: m0,
-            m1: m1,
-            m2: m2,
-        };
-        return Pick::Accepted(Accepted {
-            normal: normal,
-            triangle: triangle,
-            apex: apex,
+impl From<FlatReady> for ReadyStart {
+    ghost from_gives = { λ ready d. d ≡ ready_of ready };
+
+    fn from(ready: FlatReady) -> ReadyStart {
+        ReadyStart {
+            start: ready.start,
+            apex: ready.apex,
+            level: levels_of(ready.level),
+            looks: ready.looks,
+        }
+    }
+}
+
+impl From<FlatPick> for Pick {
+    ghost from_gives = { λ pick answer. answer ≡ handed_pick pick };
+
+    #[tactic(auto, unfolding(crate::specs::Flat::handed_pick))]
+    fn from(pick: FlatPick) -> Pick {
+        if pick.number == 0 {
+            return Ok(Accepted {
+                normal: pick.normal,
+                triangle: Triangle {
+                    m0: pick.m0,
+                    m1: pick.m1,
+                    m2: pick.m2,
+                },
+                apex: pick.apex,
+                steps: pick.steps,
+                looks: pick.looks,
+            });
+        }
+        Err(Refused {
+            number: pick.number,
+            place: pick.place,
             steps: pick.steps,
             looks: pick.looks,
-        });
+        })
     }
-    let place = pick.place;
-    Pick::Refused(Refused {
-        number: pick.number,
-        place: place,
-        steps: pick.steps,
-        looks: pick.looks,
-    })
 }

@@ -1,4 +1,3 @@
 -- What the looks of a footing promise.
-pub mod Ways
 pub mod Footing
 pub mod Settled

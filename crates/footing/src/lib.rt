@@ -1,35 +1,32 @@
 // How far out the ways of an accepted answer stay filled from its start.
 #![tactic(auto)]
 
-ghost use Rattle.std.specs.Prelude.{◌≡◌, ◌+◌, ◌≤◌, ◌<◌};
+ghost use Rattle.std.specs.Prelude.{◌≡◌, ◌+◌, ◌≤◌};
 ghost use Rattle.rules.specs.Walk.{vector_of, way, level};
 ghost use Rattle.rules.specs.Firm.{belongs, way_of};
 ghost use Rattle.laws.specs.Triples.{All};
 ghost use Rattle.laws.specs.Bounds.{Bounded};
-ghost use Rattle.axis.specs.Axes.{axis_at};
-ghost use Rattle.choice.specs.Best.{pair_at};
-ghost use Rattle.footing.specs.Ways.{way_at};
-ghost use Rattle.footing.specs.Footing.{Grounded, Looked, AllLooked, FirmTo};
 
-use rules::{Levels, Look, Solid, Triangle, Vector};
-use solid::Grid;
+use rules::{Axis, Levels, Look, Pair, Triangle, Vector, Way};
+use solid::Body;
 
-// What every look of one footing is about: the solid, whose bytes are lent beside it, the start, and of what the ways are made.
+// What every look of one footing is about: the solid with its lent bytes, the start, and of what the ways are made.
 #[derive(Clone, Copy)]
-pub struct Ground {
-    pub solid: Solid,
-    pub grid: Grid,
+pub struct Ground<'a> {
+    pub body: Body<'a>,
     pub start: Vector,
     pub signs: Vector,
     pub triangle: Triangle,
     pub level: Levels,
+    ghost started: { Bounded 1023 start },
+    ghost signed: { Bounded 1 signs },
+    ghost sized: { All (Bounded 2046) triangle },
 }
 
-// Whether all that was looked at stands; each with the looks so far.
+// A way that doesn't stand, after so many looks.
 #[derive(Clone, Copy)]
-enum Stood {
-    All(u32),
-    NotAll(u32),
+struct Ended {
+    looks: u32,
 }
 
 // The last power at which all stood, 0 if at none, and the looks so far.
@@ -39,138 +36,109 @@ pub struct Footed {
     pub looks: u32,
 }
 
-// ---- the ways by their numbers: from 0 those of the pairs in their order, from 6 along and against axis 0, 1, 2
+// ---- the ways
 
-fn vector_of(m: Triangle, axis: u32) -> Vector
-    requires { axis < 3 }
-    ensures { result ≡ vector_of m (axis_at axis) }
+// In the order in which they are looked at.
+const WAYS: [Way; 12] = [
+    Way::Sideways(Pair::P01),
+    Way::Sideways(Pair::P02),
+    Way::Sideways(Pair::P10),
+    Way::Sideways(Pair::P12),
+    Way::Sideways(Pair::P20),
+    Way::Sideways(Pair::P21),
+    Way::Along(Axis::Axis0),
+    Way::Against(Axis::Axis0),
+    Way::Along(Axis::Axis1),
+    Way::Against(Axis::Axis1),
+    Way::Along(Axis::Axis2),
+    Way::Against(Axis::Axis2),
+];
+
+fn vector_of(m: Triangle, axis: Axis) -> Vector
+    ensures { result ≡ vector_of m axis }
 {
-    if axis == 0 {
-        return m.m0;
-    }
-    if axis == 1 { m.m1 } else { m.m2 }
+    axis::choose(axis, m.m0, m.m1, m.m2)
 }
 
-fn is_level(levels: Levels, axis: u32) -> bool
-    requires { axis < 3 }
-    ensures { result ≡ level levels (axis_at axis) }
+fn belongs(level: Levels, way: Way) -> bool
+    ensures { result ≡ belongs level way }
 {
-    if axis == 0 {
-        return levels.x;
+    match way {
+        Way::Sideways(pair) => round::takes_part(level, pair),
+        Way::Along(axis) | Way::Against(axis) => round::is_level(level, axis),
     }
-    if axis == 1 { levels.y } else { levels.z }
-}
-
-fn belongs(level: Levels, way: u32) -> bool
-    requires { way < 12 }
-    ensures { result ≡ belongs level (way_at way) }
-{
-    if way < 6 {
-        let k = is_level(level, round::first_of(way));
-        let l = is_level(level, round::second_of(way));
-        return !k & !l;
-    }
-    is_level(level, (way - 6) / 2)
 }
 
 // m_l - m_k of the pair (k, l)
-fn pair_way(m: Triangle, pair: u32) -> Vector
-    requires { All (Bounded 2046) m × (pair < 6) }
-    ensures { result ≡ way m (pair_at pair) }
+fn pair_way(m: Triangle, pair: Pair) -> Vector
+    requires { All (Bounded 2046) m }
+    ensures { result ≡ way m pair }
 {
-    let k = round::first_of(pair);
-    let l = round::second_of(pair);
-    space::subtract(vector_of(m, l), vector_of(m, k))
+    let k = vector_of(m, round::first_of(pair));
+    let l = vector_of(m, round::second_of(pair));
+    space::subtract(l, k)
 }
 
-fn way_of(s: Vector, m: Triangle, way: u32) -> Vector
-    requires { Bounded 1 s × All (Bounded 2046) m × (way < 12) }
-    ensures { result ≡ way_of s m (way_at way) }
+fn way_of(s: Vector, m: Triangle, way: Way) -> Vector
+    requires { Bounded 1 s × All (Bounded 2046) m }
+    ensures { result ≡ way_of s m way }
 {
-    if way < 6 {
-        return pair_way(m, way);
+    match way {
+        Way::Sideways(pair) => pair_way(m, pair),
+        Way::Along(axis) => space::lay(s, axis::unit_of(axis)),
+        Way::Against(axis) => space::lay(s, space::negate(axis::unit_of(axis))),
     }
-    let number = way - 6;
-    let e = axis::unit_of(number / 2);
-    if number % 2 == 0 {
-        return space::lay(s, e);
-    }
-    space::lay(s, space::negate(e))
 }
 
 // ---- the looks
 
-// One way at one power. A voxel outside the box doesn't stand, and is not counted.
-fn look_out(ground: Ground, bytes: &[u8], way: u32, power: u32, looks: u32) -> Stood
-    requires { Grounded ground bytes.now × (way < 12) × (power ≤ 512) × (looks + 1 ≤ 4294967295) }
-    ensures { Looked ground bytes.now way power looks result }
-{
-    let solid = ground.solid;
-    let grid = ground.grid;
-    let p = ground.start;
-    let s = ground.signs;
-    let m = ground.triangle;
-    let at = space::add(p, space::scale(power, way_of(s, m, way)));
-    let seen = solid::look_at(solid, grid, bytes, at);
-    match seen {
-        Look::Filled => Stood::All(looks + 1),
-        Look::Empty => Stood::NotAll(looks + 1),
-        Look::Outside => Stood::NotAll(looks),
-    }
-}
+impl Ground<'_> {
+    ghost use Rattle.footing.specs.Footing.{Looked, AllLooked, FirmTo};
 
-// All ways at one power, up to the first that doesn't stand.
-fn look_around(ground: Ground, bytes: &[u8], power: u32, looks: u32) -> Stood
-    requires { Grounded ground bytes.now × (power ≤ 512) × (looks + 12 ≤ 4294967295) }
-    ensures { AllLooked ground bytes.now power looks result }
-{
-    let level = ground.level;
-    let mut n = looks;
-    let mut i: u32 = 0;
-    while i < 12 {
-        if belongs(level, i) {
-            let r = look_out(ground, bytes, i, power, n);
-            match r {
-                Stood::NotAll(k) => {
-                    return Stood::NotAll(k);
-                }
-                Stood::All(k) => {
-                    n = k;
-                }
-            }
+    // One way at one power. A voxel outside the box doesn't stand, and is not counted.
+    fn look_out(&self, way: Way, power: u32, looks: u32) -> Result<u32, Ended>
+        requires { (power ≤ 512) × (looks + 1 ≤ 4294967295) }
+        ensures { Looked self.now way power looks result }
+    {
+        let u = way_of(self.signs, self.triangle, way);
+        let at = space::add(self.start, space::scale(power, u));
+        match self.body.look_at(at) {
+            Look::Filled => Ok(looks + 1),
+            Look::Empty => Err(Ended { looks: looks + 1 }),
+            Look::Outside => Err(Ended { looks }),
         }
-        i = i + 1;
     }
-    Stood::All(n)
-}
 
-// The powers upward, from 1 to the first that is at least the reach, up to the one at which a way doesn't stand.
-pub fn firm_to(ground: Ground, bytes: &[u8], reach: u32, looks: u32) -> Footed
-    requires { Grounded ground bytes.now × (reach ≤ 256) × (looks + 6144 ≤ 4294967295) }
-    ensures { FirmTo ground bytes.now reach looks result }
-{
-    let mut last: u32 = 0;
-    let mut power: u32 = 1;
-    let mut n = looks;
-    loop {
-        let r = look_around(ground, bytes, power, n);
-        match r {
-            Stood::NotAll(k) => {
-                n = k;
-                break;
-            }
-            Stood::All(k) => {
-                n = k;
-                last = power;
+    // All ways at one power, up to the first that doesn't stand.
+    fn look_around(&self, power: u32, looks: u32) -> Result<u32, Ended>
+        requires { (power ≤ 512) × (looks + 12 ≤ 4294967295) }
+        ensures { AllLooked self.now power looks result }
+    {
+        let mut n = looks;
+        for way in WAYS {
+            if belongs(self.level, way) {
+                n = self.look_out(way, power, n)?;
             }
         }
-        if reach <= power {
-            break;
-        }
-        power = power + power;
+        Ok(n)
     }
-    Footed {
-        power: last,
-        looks: n,
+
+    // The powers upward, from 1 to the first that is at least the reach, up to the one at which a way doesn't stand.
+    pub fn firm_to(&self, reach: u32, looks: u32) -> Footed
+        requires { (reach ≤ 256) × (looks + 6144 ≤ 4294967295) }
+        ensures { FirmTo self.now reach looks result }
+    {
+        let mut last = Footed { power: 0, looks };
+        let mut power: u32 = 1;
+        loop {
+            match self.look_around(power, last.looks) {
+                Err(Ended { looks }) => return Footed { looks, ..last },
+                Ok(looks) => last = Footed { power, looks },
+            }
+            if reach <= power {
+                return last;
+            }
+            power *= 2;
+        }
     }
 }

@@ -5,13 +5,10 @@ use Rattle.rules.specs.declared.Vector.{Vector}
 use Rattle.rules.specs.declared.Accepted.{Accepted as AcceptedPick}
 use Rattle.rules.specs.declared.Footing.{Footing}
 use Rattle.rules.specs.declared.Bound.{Bound}
-use Rattle.rules.specs.declared.Lean.TheVariants.{Known}
-use Rattle.rules.specs.declared.Firm.{Firm}
-use Rattle.rules.specs.declared.Firm.TheVariants.{Stands, Refused as FirmRefused}
+use Rattle.rules.specs.Answers.{Firm, Pick}
+use Rattle.std.specs.Prelude.{Ok as Known, Ok as Stands, Err as FirmRefused, Ok as Accepted, Err as Refused}
 use Rattle.rules.specs.declared.Solid.{Solid}
 use Rattle.rules.specs.declared.ReadyStart.{ReadyStart}
-use Rattle.rules.specs.declared.Pick.{Pick}
-use Rattle.rules.specs.declared.Pick.TheVariants.{Accepted, Refused}
 use Rattle.rules.specs.Vectors.{dot}
 use Rattle.rules.specs.Lean.{bound_at, lean_of}
 use Rattle.rules.specs.Walk.{signs}

@@ -3,8 +3,8 @@ use Rattle.std.specs.Prelude.{◌≡◌, refl, ℤ}
 use Rattle.std.proofs.Common.{sym, ap, ◌∙◌, inl, inr, arith}
 use Rattle.rules.specs.declared.Vector.{Vector}
 use Rattle.rules.specs.declared.Accepted.{Accepted as AcceptedPick}
-use Rattle.rules.specs.declared.Touch.{Touch}
-use Rattle.rules.specs.declared.Touch.TheVariants.{Guess, Refused as TouchRefused}
+use Rattle.rules.specs.Answers.{Touch, guess}
+use Rattle.std.specs.Prelude.{Ok as Guess, Err as TouchRefused}
 use Rattle.laws.proofs.Theorems.{touch-number}
 use Rattle.slope.specs.Demands.{Inputs, pick_at, OnSlope, of_wedge}
 use Rattle.slope.proofs.Proved.{demand-3}
@@ -26,15 +26,15 @@ flat n i (Guess a) h = inl (record { is_accepted = refl; is_guess = refl; no_pla
 flat n i (TouchRefused r) h = inr (record { wanted = h; no_guess = refl; no_normal = refl; no_triangle = (refl, refl, refl); no_apex = refl })
 
 -- number 0 is no refusal
-guessed : (n : Vector) (i : Inputs) (x : Touch) → TouchedAs n i x → (flat_touch x).number ≡ 0 → (a : AcceptedPick) × (x ≡ Guess a)
-guessed n i (Guess a) h e = (a, refl)
+guessed : (n : Vector) (i : Inputs) (x : Touch) → TouchedAs n i x → (flat_touch x).number ≡ 0 → (a : AcceptedPick) × (x ≡ guess a)
+guessed n i (Guess g) h e = (g.answer, refl)
 guessed n i (TouchRefused r) (inl h) e = absurd (omega (arith, h.is_eight, e))
 guessed n i (TouchRefused r) (inr h) e = absurd (omega (arith, h.is_eleven, e))
 
 one-call : (n : Vector) (t : ℤ) (i : Inputs) → OnLevel n t i → (r : FlatTouch) → TouchCalled i r → FlatTouched n i r
 one-call n t i o r c = rw (touch-called c) (flat n i (touch_at i) (quick-touch.one_touch n t i o))
 
-guess-call : (n : Vector) (t : ℤ) (i : Inputs) → OnLevel n t i → (r : FlatTouch) → TouchCalled i r → r.number ≡ 0 → (a : AcceptedPick) × (touch_at i ≡ Guess a)
+guess-call : (n : Vector) (t : ℤ) (i : Inputs) → OnLevel n t i → (r : FlatTouch) → TouchCalled i r → r.number ≡ 0 → (a : AcceptedPick) × (touch_at i ≡ guess a)
 guess-call n t i o r c e = guessed n i (touch_at i) (quick-touch.one_touch n t i o) (sym (ap (λ (r : FlatTouch). r.number) (touch-called c)) ∙ e)
 
 as-long-walk : (n : Vector) (t u : ℤ) (i j : Inputs) → OnLevel n t i → OnSlope n u j

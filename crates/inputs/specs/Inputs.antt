@@ -1,7 +1,8 @@
--- Judging the inputs: the scene to walk in, or a refusal.
-use Rattle.std.specs.Prelude.{◌≡◌, true, false, List, ℕ, ℤ, nat_abs}
+-- Judging the inputs: the probe to walk with, or a refusal.
+use Rattle.std.specs.Prelude.{◌≡◌, Bool, true, false, List, ℕ, ℤ, nat_abs, Result, Ok, Err}
 use Rattle.rules.specs.declared.Vector.{Vector}
 use Rattle.rules.specs.declared.Solid.{Solid}
+use Rattle.rules.specs.declared.Refused.{Refused}
 use Rattle.rules.specs.Vectors.{◌⊕◌, dot}
 use Rattle.rules.specs.Solids.{permitted, look}
 use Rattle.rules.specs.Asked.{Asked as Question}
@@ -10,16 +11,19 @@ use Rattle.rules.specs.Pick.{probe_from, placing, judging}
 use Rattle.laws.specs.Tally.{Tally, yes, Gives}
 use Rattle.solid.specs.Grid.{ranks_of, grid_of}
 use Rattle.falls.specs.declared.Scene.{Scene}
-use Rattle.falls.specs.Scene.{probe_of, Ready}
-use Rattle.refusals.specs.Refusals.{refusal_tally}
+use Rattle.falls.specs.declared.Probe.{Probe as LentProbe}
+use Rattle.falls.specs.Scene.{probe_of}
+use Rattle.refusals.specs.Refusals.{refusal_of, refusal_tally}
 use Rattle.inputs.specs.declared.Begin.{Begin}
 use Rattle.inputs.specs.declared.Begin.TheVariants.{Asked, Handed}
-use Rattle.inputs.specs.declared.Fit.{Fit}
-use Rattle.inputs.specs.declared.Fit.TheVariants.{Scene as FitScene, Refused as FitRefused}
+
+-- a scene whose questions may be asked, with the lent bytes; or a refusal 1 to 4
+abbrev pub Fit : Type 0
+Fit = Result LentProbe Refused
 
 abbrev pub fit_tally : Fit → Tally Stop (Unit {0})
-fit_tally (FitScene v) = yes tt 0
-fit_tally (FitRefused r) = refusal_tally r
+fit_tally (Ok m) = yes tt 0
+fit_tally (Err r) = refusal_tally r
 
 -- the start p
 abbrev pub start_of : Begin → Vector
@@ -41,10 +45,15 @@ span_of (Handed d) R = R
 abbrev pub scene_of : Begin → Solid → ℕ → ℕ → Scene
 scene_of begin solid frame R = record { solid = solid; grid = grid_of solid; apex = apex_of begin (signs frame); here = dot (ranks_of solid) (apex_of begin (signs frame)); signs = signs frame; span = span_of begin R; reach = R }
 
--- where none is refused it is that scene, and every question may be asked in it; no refusal has looks
+-- where none is refused it is of that scene and these bytes; no refusal has looks
 abbrev pub FitsTo : Begin → Solid → List ℕ → ℕ → ℕ → Fit → Type 0
-FitsTo begin solid bytes frame R (FitScene v) = (v ≡ scene_of begin solid frame R) × Ready v bytes
-FitsTo begin solid bytes frame R (FitRefused r) = r.looks ≡ 0
+FitsTo begin solid bytes frame R (Ok m) = (m.scene ≡ scene_of begin solid frame R) × (m.bytes.now ≡ bytes)
+FitsTo begin solid bytes frame R (Err r) = r.looks ≡ 0
+
+-- one test: what it found, or its refusal
+abbrev pub Ensured : Bool → ℕ → Vector → Result (Unit {0}) Refused → Type 0
+Ensured test number place (Ok t) = test ≡ true
+Ensured test number place (Err r) = (test ≡ false) × (r ≡ refusal_of number place 0 0)
 
 pub record PlacesJudged (begin : Begin) (solid : Solid) (bytes : List ℕ) (frame R : ℕ) (r : Fit) : Type 0 where
   pub gives : Gives 0 (placing (probe_of (scene_of begin solid frame R) bytes) (start_of begin)) (fit_tally r)

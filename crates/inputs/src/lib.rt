@@ -3,25 +3,19 @@
 
 ghost use Rattle.std.specs.Prelude.{◌≡◌, ◌≤◌};
 ghost use Rattle.rules.specs.Walk.{sign, signs};
+ghost use Rattle.rules.specs.Refusals.{number_of};
 ghost use Rattle.laws.specs.Bounds.{Bounded};
-ghost use Rattle.solid.specs.Asks.{PermittedSolid};
-ghost use Rattle.inputs.specs.Inputs.{start_of, apex_of, span_of, PlacesJudged, InputsJudged};
+ghost use Rattle.inputs.specs.Inputs.{start_of, apex_of, span_of, Ensured, PlacesJudged, InputsJudged};
 
-use falls::Scene;
-use rules::{ReadyStart, Refused, Solid, Vector};
+use falls::{Probe, Scene};
+use rules::{ReadyStart, Refusal, Refused, Solid, Vector};
+use solid::Body;
 
 // From where the rounds begin: a start p that is asked, quickly or not; or a ready start, which is asked no more.
 #[derive(Clone, Copy)]
 pub enum Begin {
     Asked(bool, Vector),
     Handed(ReadyStart),
-}
-
-// The scene to walk in, or a refusal 1 to 4.
-#[derive(Clone, Copy)]
-pub enum Fit {
-    Scene(Scene),
-    Refused(Refused),
 }
 
 // ---- frames
@@ -35,10 +29,11 @@ fn sign_of(bit: u32) -> i32
 pub fn signs_of(frame: u32) -> Vector
     ensures { result ≡ signs frame }
 {
-    let x = sign_of(frame % 2);
-    let y = sign_of(frame / 2 % 2);
-    let z = sign_of(frame / 4 % 2);
-    Vector { x: x, y: y, z: z }
+    Vector {
+        x: sign_of(frame % 2),
+        y: sign_of(frame / 2 % 2),
+        z: sign_of(frame / 4 % 2),
+    }
 }
 
 // ---- where the rounds begin
@@ -75,51 +70,64 @@ fn span_of(begin: Begin, reach: u32) -> u32
 
 // ---- refusals
 
-// Refusal 4: the start is judged before the apex is formed.
-fn judge_places(begin: Begin, solid: Solid, bytes: &[u8], frame: u32, reach: u32) -> Fit
-    requires { PermittedSolid solid bytes.now × (reach ≤ 256) }
-    ensures { PlacesJudged begin solid bytes.now frame reach result }
+// Go on if the test holds; nothing was looked at yet.
+fn ensure(test: bool, why: Refusal, place: Vector) -> Result<(), Refused>
+    ensures { Ensured test (number_of why) place result }
 {
-    let p = start_of(begin);
-    let grid = solid::grid_of(solid, bytes);
-    if solid::is_inside(grid, p) {
-        let s = signs_of(frame);
-        let q = apex_of(begin, s);
-        let span = span_of(begin, reach);
-        if solid::is_inside(grid, q) {
-            let here = solid::rank_of(grid, q);
-            Fit::Scene(Scene {
-                solid: solid,
-                grid: grid,
-                apex: q,
-                here: here,
-                signs: s,
-                span: span,
-                reach: reach,
-            })
-        } else {
-            Fit::Refused(refusals::refusal(4, q, 0, 0))
-        }
+    if test {
+        Ok(())
     } else {
-        Fit::Refused(refusals::refusal(4, p, 0, 0))
+        Err(refusals::refuse(why, place, 0, 0))
     }
 }
 
-pub fn judge(begin: Begin, solid: Solid, bytes: &[u8], frame: i32, reach: i32) -> Fit
+// Refusal 4: the start is judged before the apex is formed.
+fn judge_places<'a>(
+    begin: Begin,
+    body: Body<'a>,
+    frame: u32,
+    reach: u32,
+) -> Result<Probe<'a>, Refused>
+    requires { reach ≤ 256 }
+    ensures { PlacesJudged begin body.entry.solid body.entry.bytes.now frame reach result }
+{
+    let p = start_of(begin);
+    ensure(body.is_inside(p), Refusal::Place, p)?;
+    let signs = signs_of(frame);
+    let q = apex_of(begin, signs);
+    ensure(body.is_inside(q), Refusal::Place, q)?;
+    let scene = Scene {
+        solid: body.solid,
+        grid: body.grid,
+        apex: q,
+        here: body.rank_of(q),
+        signs,
+        span: span_of(begin, reach),
+        reach,
+    };
+    Ok(Probe {
+        scene,
+        bytes: body.bytes,
+    })
+}
+
+pub fn judge<'a>(
+    begin: Begin,
+    solid: Solid,
+    bytes: &'a [u8],
+    frame: i32,
+    reach: i32,
+) -> Result<Probe<'a>, Refused>
     ensures { InputsJudged begin solid bytes.now frame reach result }
 {
     let origin = Vector { x: 0, y: 0, z: 0 };
-    if range::is_between(1, reach, 256) {
-        if range::is_between(0, frame, 7) {
-            if solid::is_permitted(solid, bytes) {
-                judge_places(begin, solid, bytes, frame as u32, reach as u32)
-            } else {
-                Fit::Refused(refusals::refusal(3, origin, 0, 0))
-            }
-        } else {
-            Fit::Refused(refusals::refusal(2, origin, 0, 0))
-        }
-    } else {
-        Fit::Refused(refusals::refusal(1, origin, 0, 0))
-    }
+    ensure(range::is_between(1, reach, 256), Refusal::Reach, origin)?;
+    ensure(range::is_between(0, frame, 7), Refusal::Frame, origin)?;
+    ensure(solid::is_permitted(solid, bytes), Refusal::Solid, origin)?;
+    judge_places(
+        begin,
+        solid::body_of(solid, bytes),
+        frame as u32,
+        reach as u32,
+    )
 }

@@ -10,7 +10,9 @@ use Rattle.rules.specs.declared.Vector.{Vector}
 use Rattle.rules.specs.declared.Levels.{Levels}
 use Rattle.rules.specs.Vectors.{minus, lay}
 use Rattle.rules.specs.Asked.{answered, ◌>>=◌, ◌>>◌}
-use Rattle.rules.specs.Walk.{Stop, stop, ensure, asked, Probe, falls, Axis, axis0, axis1, axis2, unit, levels, level, all_level, remaining, is_level, axes}
+use Rattle.rules.specs.declared.Axis.{Axis}
+use Rattle.rules.specs.declared.Axis.TheVariants.{Axis0 as axis0, Axis1 as axis1, Axis2 as axis2}
+use Rattle.rules.specs.Walk.{Stop, stop, ensure, asked, Probe, falls, unit, levels, level, all_level, remaining, is_level, axes}
 use Rattle.laws.specs.Levels.{remains, remaining-count}
 use Rattle.laws.specs.Says.{Says, Few, fewer, few-after, says-answer, says-weaker, says-itself, says-bind, says-asked, says-ensure}
 use Rattle.laws.specs.Looks.{Fell, Stopped, falls-says}

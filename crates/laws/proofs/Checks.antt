@@ -3,7 +3,8 @@ use Rattle.std.specs.Prelude.{refl, Bool, List, [], ℕ, ◌+◌, ◌*◌, ◌�
 use Rattle.std.proofs.Common.{inl, inr, arith}
 use Rattle.rules.specs.declared.Vector.{Vector}
 use Rattle.rules.specs.declared.Look.{Look}
-use Rattle.rules.specs.Walk.{stop, powers, Axis, remaining, Probe, axes}
+use Rattle.rules.specs.declared.Axis.{Axis}
+use Rattle.rules.specs.Walk.{stop, powers, remaining, Probe, axes}
 use Rattle.rules.specs.Pick.{probe, check}
 use Rattle.laws.specs.Says.{Says, says-weaker}
 use Rattle.laws.specs.Axes.{AxesOf, AxisRule}

@@ -12,8 +12,8 @@ use Rattle.std.specs.Int.Signed.{lt_z_yes, lt_z_no}
 use Rattle.integers.specs.Order.{parts}
 use Rattle.rules.specs.declared.Triangle.{Triangle}
 use Rattle.rules.specs.declared.Pair.{Pair}
-use Rattle.rules.specs.declared.Choice.{Choice}
-use Rattle.rules.specs.declared.Choice.TheVariants.{Nothing, Chosen}
+use Rattle.rules.specs.Answers.{Choice}
+use Rattle.std.specs.Prelude.{None as Nothing, Some as Chosen}
 use Rattle.rules.specs.Walk.{inside, any_inside, first_free, choice}
 use Rattle.laws.specs.Tests.{is_true, is_false, In}
 use Rattle.laws.specs.Triples.{det_of}

@@ -8,8 +8,8 @@ use Rattle.std.proofs.Math.IntN.{pos}
 use Rattle.rules.specs.declared.Vector.{Vector}
 use Rattle.rules.specs.declared.Triangle.{Triangle}
 use Rattle.rules.specs.declared.Pair.{Pair}
-use Rattle.rules.specs.declared.Choice.{Choice}
-use Rattle.rules.specs.declared.Choice.TheVariants.{Nothing, Chosen}
+use Rattle.rules.specs.Answers.{Choice}
+use Rattle.std.specs.Prelude.{None as Nothing, Some as Chosen}
 use Rattle.rules.specs.Vectors.{lay}
 use Rattle.rules.specs.Asked.{answered, after, ◌>>=◌}
 use Rattle.rules.specs.Walk.{asked, Probe, falling, round, walk, way, step, first_free, choice}

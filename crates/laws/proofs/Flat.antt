@@ -4,7 +4,8 @@ use Rattle.std.proofs.Common.{sym, ap, ◌∙◌}
 use Rattle.rules.specs.declared.Levels.{Levels}
 use Rattle.rules.specs.declared.Triangle.{Triangle}
 use Rattle.rules.specs.Vectors.{dot}
-use Rattle.rules.specs.Walk.{Axis, unit, vector_of, level, levelled, normal}
+use Rattle.rules.specs.declared.Axis.{Axis}
+use Rattle.rules.specs.Walk.{unit, vector_of, level, levelled, normal}
 use Rattle.laws.specs.Parts.{part, dot-unit}
 use Rattle.laws.specs.Triples.{all_of, det_of, normal-dot}
 use Rattle.laws.specs.Flat.{Flat, is_one, product, levelled-along, over-unit, part-along, product_is}

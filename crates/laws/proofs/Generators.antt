@@ -9,7 +9,9 @@ use Rattle.rules.specs.declared.Vector.{Vector}
 use Rattle.rules.specs.declared.Levels.{Levels}
 use Rattle.rules.specs.declared.Triangle.{Triangle}
 use Rattle.rules.specs.Vectors.{◌⊖◌, dot}
-use Rattle.rules.specs.Walk.{Axis, axis0, axis1, axis2, all_axes, vector_of, level, only, remaining}
+use Rattle.rules.specs.declared.Axis.{Axis}
+use Rattle.rules.specs.declared.Axis.TheVariants.{Axis0 as axis0, Axis1 as axis1, Axis2 as axis2}
+use Rattle.rules.specs.Walk.{all_axes, vector_of, level, only, remaining}
 use Rattle.laws.specs.Tests.{Each}
 use Rattle.laws.specs.Only.{each_of, each_both, each_map, only-holds}
 use Rattle.laws.specs.Parts.{dot-difference}

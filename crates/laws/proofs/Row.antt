@@ -6,8 +6,8 @@ use Rattle.std.proofs.Math.Facts.{yes_and}
 use Rattle.rules.specs.declared.Vector.{Vector}
 use Rattle.rules.specs.declared.Solid.{Solid}
 use Rattle.rules.specs.declared.Levels.{Levels}
-use Rattle.rules.specs.declared.Check.{Check}
-use Rattle.rules.specs.declared.Check.TheVariants.{Ready, Refused as CheckRefused}
+use Rattle.rules.specs.Answers.{Check}
+use Rattle.std.specs.Prelude.{Ok as Ready, Err as CheckRefused}
 use Rattle.rules.specs.Solids.{permitted, look}
 use Rattle.rules.specs.Asked.{Asked, answered, refused, after, ◌>>=◌}
 use Rattle.rules.specs.Walk.{Stop, powers, all_level, Probe, Found, to_the_end}

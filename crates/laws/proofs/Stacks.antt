@@ -14,13 +14,15 @@ use Rattle.rules.specs.declared.Levels.{Levels}
 use Rattle.rules.specs.declared.Stack.{Stack}
 use Rattle.rules.specs.declared.Solid.TheVariants.{Stack as IsStack}
 use Rattle.rules.specs.declared.Accepted.{Accepted as AcceptedPick}
-use Rattle.rules.specs.declared.Pick.TheVariants.{Accepted}
+use Rattle.std.specs.Prelude.{Ok as Accepted}
 use Rattle.rules.specs.declared.Triangle.{Triangle}
 use Rattle.rules.specs.declared.Pair.{Pair}
 use Rattle.rules.specs.declared.Pair.TheVariants.{P01}
 use Rattle.rules.specs.declared.ReadyStart.{ReadyStart}
 use Rattle.rules.specs.Vectors.{◌⊖◌, minus, lay, dot, cross, det, origin}
-use Rattle.rules.specs.Walk.{Axis, axis0, axis1, axis2, unit, with_vector, pairs, from, first, second, way, with, only, takes_part, Probe, Found}
+use Rattle.rules.specs.declared.Axis.{Axis}
+use Rattle.rules.specs.declared.Axis.TheVariants.{Axis0 as axis0, Axis1 as axis1, Axis2 as axis2}
+use Rattle.rules.specs.Walk.{unit, with_vector, pairs, from, first, second, way, with, only, takes_part, Probe, Found}
 use Rattle.rules.specs.Solids.{between, permitted_stack, look}
 use Rattle.rules.specs.Pick.{is_inside, probe_from, pick_of}
 use Rattle.rules.specs.TwoCalls.{walk_of}

@@ -15,17 +15,16 @@ use Rattle.rules.specs.declared.Levels.{Levels}
 use Rattle.rules.specs.declared.Triangle.{Triangle}
 use Rattle.rules.specs.declared.Pair.{Pair}
 use Rattle.rules.specs.declared.Pair.TheVariants.{P01, P02}
-use Rattle.rules.specs.declared.Choice.{Choice}
-use Rattle.rules.specs.declared.Choice.TheVariants.{Nothing}
+use Rattle.rules.specs.Answers.{Choice, Pick, guess}
+use Rattle.std.specs.Prelude.{None as Nothing, Ok as Accepted, Err as Refused, Err as TouchRefused}
 use Rattle.rules.specs.declared.Accepted.{Accepted as AcceptedPick}
 use Rattle.rules.specs.declared.Refused.{Refused as RefusedPick}
-use Rattle.rules.specs.declared.Pick.{Pick}
-use Rattle.rules.specs.declared.Pick.TheVariants.{Accepted, Refused}
-use Rattle.rules.specs.declared.Touch.TheVariants.{Guess, Refused as TouchRefused}
 use Rattle.rules.specs.Vectors.{◌⊕◌, scale, dot, lay}
 use Rattle.rules.specs.Solids.{box, in_box, permitted, look}
 use Rattle.rules.specs.Asked.{answered}
-use Rattle.rules.specs.Walk.{signs, powers, Axis, axis0, axis1, axis2, unit, units, vector_of, pairs, second, way, step, levels, level, keep, only, remaining, takes_part, determinant, inside, choice, Probe, corner, laid, falling, round, walk}
+use Rattle.rules.specs.declared.Axis.{Axis}
+use Rattle.rules.specs.declared.Axis.TheVariants.{Axis0 as axis0, Axis1 as axis1, Axis2 as axis2}
+use Rattle.rules.specs.Walk.{signs, powers, unit, units, vector_of, pairs, second, way, step, levels, level, keep, only, remaining, takes_part, determinant, inside, choice, Probe, corner, laid, falling, round, walk}
 use Rattle.rules.specs.Pick.{is_inside, probe, pick, pick_of}
 use Rattle.rules.specs.Touch.{nearer, touch_of}
 use Rattle.rules.specs.Lean.{is_zero, levels_of}
@@ -292,7 +291,7 @@ module _ (solid : Solid) (bytes : List ℕ) (p : Vector) (frame reach : ℤ) whe
   pub touch-looks-at-most-1529 : looks_of (unmarked (touch_of solid bytes p frame reach)) ≤ 1529
   touch-looks-at-most-1529 = Touched.most-looks solid bytes p frame reach
 
-  pub guess-looks : (a : AcceptedPick) → touch_of solid bytes p frame reach ≡ Guess a → a.looks ≡ 5 + 6 * suc a.steps
+  pub guess-looks : (a : AcceptedPick) → touch_of solid bytes p frame reach ≡ guess a → a.looks ≡ 5 + 6 * suc a.steps
   guess-looks = Touched.guess-looks solid bytes p frame reach
 
   module _ (r : RefusedPick) (is : touch_of solid bytes p frame reach ≡ TouchRefused r) where

@@ -5,10 +5,8 @@ use Rattle.rules.specs.declared.Vector.{Vector}
 use Rattle.rules.specs.declared.Solid.{Solid}
 use Rattle.rules.specs.declared.Accepted.{Accepted as AcceptedPick}
 use Rattle.rules.specs.declared.Refused.{Refused as RefusedPick}
-use Rattle.rules.specs.declared.Pick.{Pick}
-use Rattle.rules.specs.declared.Pick.TheVariants.{Accepted, Refused}
-use Rattle.rules.specs.declared.Touch.{Touch}
-use Rattle.rules.specs.declared.Touch.TheVariants.{Guess, Refused as TouchRefused}
+use Rattle.rules.specs.Answers.{Pick, Touch, guess}
+use Rattle.std.specs.Prelude.{Ok as Accepted, Err as Refused, Err as TouchRefused}
 use Rattle.rules.specs.Solids.{permitted, look}
 use Rattle.rules.specs.Walk.{signs, Probe}
 use Rattle.rules.specs.Pick.{probe}
@@ -55,7 +53,7 @@ module _ (solid : Solid) (bytes : List ℕ) (p : Vector) (frame reach : ℤ) whe
       go (Accepted a) h = omega (arith, h.1.counted, h.1.few_steps, h.1.small, h.2)
       go (Refused r) h = omega (arith, by-steps r h.0 h.1 h.1.small, h.2)
 
-  pub guess-looks : (a : AcceptedPick) → touch_of solid bytes p frame reach ≡ Guess a → a.looks ≡ 5 + 6 * suc a.steps
+  pub guess-looks : (a : AcceptedPick) → touch_of solid bytes p frame reach ≡ guess a → a.looks ≡ 5 + 6 * suc a.steps
   guess-looks a e = let h = subst (λ (t : Touch). AnswerSays (TouchFound R) (TouchStop c R) (unmarked t)) e tells in omega (arith, h.1.counted, h.2)
 
   module _ (r : RefusedPick) (is : touch_of solid bytes p frame reach ≡ TouchRefused r) where

@@ -11,7 +11,9 @@ use Rattle.rules.specs.declared.Vector.{Vector}
 use Rattle.rules.specs.declared.Look.{Look}
 use Rattle.rules.specs.declared.Levels.{Levels}
 use Rattle.rules.specs.declared.Triangle.{Triangle}
-use Rattle.rules.specs.Walk.{Stop, stop, Axis, axis0, axis1, axis2, unit, units, pairs, none_level, Probe, corner, all_corners, rounds, found}
+use Rattle.rules.specs.declared.Axis.{Axis}
+use Rattle.rules.specs.declared.Axis.TheVariants.{Axis0 as axis0, Axis1 as axis1, Axis2 as axis2}
+use Rattle.rules.specs.Walk.{Stop, stop, unit, units, pairs, none_level, Probe, corner, all_corners, rounds, found}
 use Rattle.rules.specs.Pick.{is_inside, probe}
 use Rattle.rules.specs.Touch.{nearer, touch}
 use Rattle.range.specs.Ranges.{between-naturals}

@@ -12,13 +12,13 @@ use Rattle.rules.specs.declared.Pair.{Pair}
 use Rattle.rules.specs.declared.ReadyStart.{ReadyStart}
 use Rattle.rules.specs.declared.Accepted.{Accepted as AcceptedPick}
 use Rattle.rules.specs.declared.Refused.{Refused as RefusedPick}
-use Rattle.rules.specs.declared.Pick.TheVariants.{Accepted, Refused}
-use Rattle.rules.specs.declared.Check.{Check}
-use Rattle.rules.specs.declared.Check.TheVariants.{Ready, Refused as CheckRefused}
+use Rattle.rules.specs.Answers.{Check}
+use Rattle.std.specs.Prelude.{Ok as Accepted, Err as Refused, Ok as Ready, Err as CheckRefused}
 use Rattle.rules.specs.Vectors.{◌⊕◌, dot, lay, origin}
 use Rattle.rules.specs.Solids.{box, in_box, permitted, look}
 use Rattle.rules.specs.Asked.{answered}
-use Rattle.rules.specs.Walk.{Stop, stop, signs, powers, Axis, unit, vector_of, pairs, way, level, all_level, only, remaining, takes_part, Probe, Found, laid, found}
+use Rattle.rules.specs.declared.Axis.{Axis}
+use Rattle.rules.specs.Walk.{Stop, stop, signs, powers, unit, vector_of, pairs, way, level, all_level, only, remaining, takes_part, Probe, Found, laid, found}
 use Rattle.rules.specs.Pick.{probe, refused_answer, pick_of}
 use Rattle.rules.specs.TwoCalls.{check_of, handed, walk_on, walk_of, in_a_row}
 use Rattle.rules.specs.Lean.{levels_of}

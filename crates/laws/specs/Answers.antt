@@ -8,11 +8,13 @@ use Rattle.rules.specs.declared.Levels.{Levels}
 use Rattle.rules.specs.declared.Triangle.{Triangle}
 use Rattle.rules.specs.declared.Accepted.{Accepted as AcceptedPick}
 use Rattle.rules.specs.declared.Refused.{Refused as RefusedPick}
-use Rattle.rules.specs.declared.Pick.{Pick}
-use Rattle.rules.specs.declared.Pick.TheVariants.{Accepted, Refused}
+use Rattle.rules.specs.Answers.{Pick}
+use Rattle.std.specs.Prelude.{Ok as Accepted, Err as Refused}
 use Rattle.rules.specs.Vectors.{lay}
 use Rattle.rules.specs.Asked.{Asked, answered, refused}
-use Rattle.rules.specs.Walk.{Stop, stop, Axis, axis0, axis1, axis2, unit, vector_of, level, remaining, unless_level, levelled, normal, Probe, Found, laid, found}
+use Rattle.rules.specs.declared.Axis.{Axis}
+use Rattle.rules.specs.declared.Axis.TheVariants.{Axis0 as axis0, Axis1 as axis1, Axis2 as axis2}
+use Rattle.rules.specs.Walk.{Stop, stop, unit, vector_of, level, remaining, unless_level, levelled, normal, Probe, Found, laid, found}
 use Rattle.rules.specs.Pick.{accepted_answer, answer}
 use Rattle.rules.specs.TwoCalls.{answer_from}
 use Rattle.rules.specs.Lean.{is_zero, levels_of}

@@ -7,7 +7,8 @@ use Rattle.rules.specs.declared.Vector.{Vector}
 use Rattle.rules.specs.declared.Levels.{Levels}
 use Rattle.rules.specs.Vectors.{◌⊕◌, minus, lay}
 use Rattle.rules.specs.Asked.{answered}
-use Rattle.rules.specs.Walk.{Stop, stop, Probe, Axis, unit, level, all_level, is_level}
+use Rattle.rules.specs.declared.Axis.{Axis}
+use Rattle.rules.specs.Walk.{Stop, stop, Probe, unit, level, all_level, is_level}
 use Rattle.laws.specs.Looks.{Fell}
 use Rattle.laws.specs.Next.{LevelsAnswered, NextLook}
 

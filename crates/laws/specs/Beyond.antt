@@ -4,7 +4,7 @@ use Rattle.rules.specs.declared.Stack.{Stack}
 use Rattle.rules.specs.declared.Solid.TheVariants.{Stack as IsStack}
 use Rattle.rules.specs.declared.ReadyStart.{ReadyStart}
 use Rattle.rules.specs.declared.Accepted.{Accepted as AcceptedPick}
-use Rattle.rules.specs.declared.Pick.TheVariants.{Accepted}
+use Rattle.std.specs.Prelude.{Ok as Accepted}
 use Rattle.rules.specs.Vectors.{◌⊕◌, cross, lay, size, origin, unit2}
 use Rattle.rules.specs.Solids.{between, row_bytes, slice_bytes, stack_bytes, permitted_stack, voxel as voxel_of, filled_stack, in_box, look}
 use Rattle.rules.specs.Asked.{after, ◌>>=◌}

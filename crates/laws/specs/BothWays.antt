@@ -13,7 +13,8 @@ use Rattle.rules.specs.declared.Pair.{Pair}
 use Rattle.rules.specs.declared.Pair.TheVariants.{P01, P02, P10, P12, P20, P21}
 use Rattle.rules.specs.Vectors.{◌⊕◌, ◌⊖◌, minus, lay}
 use Rattle.rules.specs.Asked.{Asked, answered, ◌>>=◌, ◌>>◌}
-use Rattle.rules.specs.Walk.{Stop, stop, ensure, asked, Axis, unit, from, to, vector_of, first, second, way, level, takes_part, Probe, Found, laid, falls, is_level}
+use Rattle.rules.specs.declared.Axis.{Axis}
+use Rattle.rules.specs.Walk.{Stop, stop, ensure, asked, unit, from, to, vector_of, first, second, way, level, takes_part, Probe, Found, laid, falls, is_level}
 use Rattle.laws.specs.Tests.{is_true}
 use Rattle.laws.specs.Parts.{difference-turned}
 use Rattle.laws.specs.Levels.{levels-eq, from-remains, to-remains}

@@ -10,8 +10,8 @@ use Rattle.rules.specs.declared.Solid.TheVariants.{Wedge as IsWedge, Stack as Is
 use Rattle.rules.specs.declared.Look.TheVariants.{Outside}
 use Rattle.rules.specs.declared.Triangle.{Triangle}
 use Rattle.rules.specs.declared.Pair.{Pair}
-use Rattle.rules.specs.declared.Choice.{Choice}
-use Rattle.rules.specs.declared.Choice.TheVariants.{Chosen}
+use Rattle.rules.specs.Answers.{Choice}
+use Rattle.std.specs.Prelude.{Some as Chosen}
 use Rattle.rules.specs.Vectors.{vector}
 use Rattle.rules.specs.Asked.{answered}
 use Rattle.rules.specs.Walk.{powers, units, step, Probe, round}

@@ -7,7 +7,7 @@ use Rattle.std.proofs.Math.Bool.{true, false}
 use mathlib.Core.List.{List, [], ◌∷◌}
 use Rattle.rules.specs.declared.Triangle.{Triangle}
 use Rattle.rules.specs.declared.Pair.{Pair}
-use Rattle.rules.specs.declared.Choice.TheVariants.{Chosen}
+use Rattle.std.specs.Prelude.{Some as Chosen}
 use Rattle.rules.specs.Walk.{Probe, keep, only}
 use Rattle.laws.specs.Tests.{Each, In}
 use Rattle.laws.specs.Only.{each_of, only-in}

@@ -12,7 +12,9 @@ use Rattle.rules.specs.declared.Solid.{Solid}
 use Rattle.rules.specs.declared.Look.TheVariants.{Filled, Empty}
 use Rattle.rules.specs.Vectors.{◌⊕◌, minus, lay}
 use Rattle.rules.specs.Solids.{in_side, box, in_box, look}
-use Rattle.rules.specs.Walk.{Stop, stop, Axis, axis0, axis1, axis2, unit, Probe, corner, corners_filled}
+use Rattle.rules.specs.declared.Axis.{Axis}
+use Rattle.rules.specs.declared.Axis.TheVariants.{Axis0 as axis0, Axis1 as axis1, Axis2 as axis2}
+use Rattle.rules.specs.Walk.{Stop, stop, unit, Probe, corner, corners_filled}
 use Rattle.rules.specs.Pick.{is_inside}
 use Rattle.laws.specs.Tests.{Each}
 use Rattle.laws.specs.Parts.{part, part-sum, part-minus, part-lay}

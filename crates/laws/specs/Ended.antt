@@ -12,8 +12,8 @@ use Rattle.rules.specs.declared.Vector.{Vector}
 use Rattle.rules.specs.declared.Look.TheVariants.{Empty}
 use Rattle.rules.specs.declared.Triangle.{Triangle}
 use Rattle.rules.specs.declared.Pair.{Pair}
-use Rattle.rules.specs.declared.Choice.{Choice}
-use Rattle.rules.specs.declared.Choice.TheVariants.{Nothing, Chosen}
+use Rattle.rules.specs.Answers.{Choice}
+use Rattle.std.specs.Prelude.{None as Nothing, Some as Chosen}
 use Rattle.rules.specs.Vectors.{◌⊕◌, scale, lay}
 use Rattle.rules.specs.Asked.{Asked, answered, refused, after, ◌>>=◌}
 use Rattle.rules.specs.Walk.{Stop, stop, asked, Probe, look_at, falls_at, falls, falling, round, walk, way, step, keep}

@@ -9,7 +9,9 @@ use Rattle.rules.specs.declared.Levels.{Levels}
 use Rattle.rules.specs.declared.Triangle.{Triangle}
 use Rattle.rules.specs.declared.Pair.{Pair}
 use Rattle.rules.specs.Vectors.{vector, ◌⊕◌, ◌⊖◌, scale, dot}
-use Rattle.rules.specs.Walk.{Axis, axis0, axis1, axis2, unit, units, vector_of, with_vector, from, to, first, second, way, step, level, takes_part, unless_level, levelled}
+use Rattle.rules.specs.declared.Axis.{Axis}
+use Rattle.rules.specs.declared.Axis.TheVariants.{Axis0 as axis0, Axis1 as axis1, Axis2 as axis2}
+use Rattle.rules.specs.Walk.{unit, units, vector_of, with_vector, from, to, first, second, way, step, level, takes_part, unless_level, levelled}
 use Rattle.laws.specs.Parts.{part, part-difference, vector-eq, of2, dot-difference, dot-unit, scale_one}
 use Rattle.laws.specs.Triples.{det_of, crosses, combined, expand-crosses}
 use Rattle.laws.specs.Levels.{from-remains, to-remains}

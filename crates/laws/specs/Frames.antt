@@ -6,7 +6,8 @@ use Rattle.integers.specs.Order.{parts, linear, atom, fact}
 use Rattle.integers.specs.Sizes.{product-size}
 use Rattle.rules.specs.declared.Vector.{Vector}
 use Rattle.rules.specs.Vectors.{◌⊕◌, ◌⊖◌, minus, scale, dot, lay, size}
-use Rattle.rules.specs.Walk.{sign, signs, Axis}
+use Rattle.rules.specs.declared.Axis.{Axis}
+use Rattle.rules.specs.Walk.{sign, signs}
 use Rattle.rules.specs.Lean.{is_zero}
 use Rattle.laws.specs.Levels.{not-zero}
 use Rattle.laws.specs.Parts.{Parts, part, part_of, part-minus, part-lay, part-difference, vector-by-parts, vector-eq, NonNegative, Positive, of3}

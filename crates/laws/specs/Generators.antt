@@ -12,7 +12,9 @@ use Rattle.rules.specs.declared.Levels.{Levels}
 use Rattle.rules.specs.declared.Triangle.{Triangle}
 use Rattle.rules.specs.declared.Pair.TheVariants.{P01, P02}
 use Rattle.rules.specs.Vectors.{◌⊕◌, ◌⊖◌, scale, dot, origin}
-use Rattle.rules.specs.Walk.{Axis, axis0, axis1, axis2, all_axes, vector_of, way, levels, level, keep, only, remaining}
+use Rattle.rules.specs.declared.Axis.{Axis}
+use Rattle.rules.specs.declared.Axis.TheVariants.{Axis0 as axis0, Axis1 as axis1, Axis2 as axis2}
+use Rattle.rules.specs.Walk.{all_axes, vector_of, way, levels, level, keep, only, remaining}
 use Rattle.laws.specs.Parts.{part, vector-by-parts, part-sum, part-difference, part-scale, part-origin, dot-sum, dot-scale, dot-origin}
 use Rattle.laws.specs.Triples.{combined}
 use Rattle.laws.specs.Flat.{product}

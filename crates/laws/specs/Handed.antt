@@ -13,7 +13,7 @@ use Rattle.rules.specs.declared.Look.{Look}
 use Rattle.rules.specs.declared.Solid.{Solid}
 use Rattle.rules.specs.declared.ReadyStart.{ReadyStart}
 use Rattle.rules.specs.declared.Accepted.{Accepted as AcceptedPick}
-use Rattle.rules.specs.declared.Pick.TheVariants.{Accepted}
+use Rattle.std.specs.Prelude.{Ok as Accepted}
 use Rattle.rules.specs.Vectors.{origin}
 use Rattle.rules.specs.Solids.{permitted, look}
 use Rattle.rules.specs.Asked.{Asked, answered, refused}

@@ -8,7 +8,9 @@ use Rattle.rules.specs.declared.Vector.{Vector}
 use Rattle.rules.specs.declared.Levels.{Levels}
 use Rattle.rules.specs.declared.Pair.{Pair}
 use Rattle.rules.specs.declared.Pair.TheVariants.{P01, P02, P10, P12, P20, P21}
-use Rattle.rules.specs.Walk.{Axis, axis0, axis1, axis2, pairs, from, to, levels, level, all_level, keep, only, remaining, takes_part, unless_level, levelled}
+use Rattle.rules.specs.declared.Axis.{Axis}
+use Rattle.rules.specs.declared.Axis.TheVariants.{Axis0 as axis0, Axis1 as axis1, Axis2 as axis2}
+use Rattle.rules.specs.Walk.{pairs, from, to, levels, level, all_level, keep, only, remaining, takes_part, unless_level, levelled}
 use Rattle.rules.specs.Lean.{is_zero, levels_of}
 use Rattle.laws.specs.Parts.{part}
 

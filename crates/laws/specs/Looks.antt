@@ -13,7 +13,7 @@ use Rattle.rules.specs.declared.Look.{Look}
 use Rattle.rules.specs.declared.Look.TheVariants.{Filled, Empty, Outside}
 use Rattle.rules.specs.declared.Triangle.{Triangle}
 use Rattle.rules.specs.declared.Pair.{Pair}
-use Rattle.rules.specs.declared.Choice.{Choice}
+use Rattle.rules.specs.Answers.{Choice}
 use Rattle.rules.specs.Vectors.{◌⊕◌, scale, lay}
 use Rattle.rules.specs.Asked.{answered, refused}
 use Rattle.rules.specs.Walk.{seen, Probe, look_at, falls_at, falls, falling, round, way, keep, choice}

@@ -6,10 +6,12 @@ use Rattle.rules.specs.declared.Look.TheVariants.{Outside}
 use Rattle.rules.specs.declared.Levels.{Levels}
 use Rattle.rules.specs.declared.Triangle.{Triangle}
 use Rattle.rules.specs.declared.Pair.{Pair}
-use Rattle.rules.specs.declared.Choice.TheVariants.{Chosen}
+use Rattle.std.specs.Prelude.{Some as Chosen}
 use Rattle.rules.specs.Vectors.{◌⊕◌, minus, scale, lay}
 use Rattle.rules.specs.Asked.{answered, refused}
-use Rattle.rules.specs.Walk.{Stop, Probe, Axis, axis0, axis1, axis2, unit, units, pairs, way, step, level, only, takes_part, falls, is_level}
+use Rattle.rules.specs.declared.Axis.{Axis}
+use Rattle.rules.specs.declared.Axis.TheVariants.{Axis0 as axis0, Axis1 as axis1, Axis2 as axis2}
+use Rattle.rules.specs.Walk.{Stop, Probe, unit, units, pairs, way, step, level, only, takes_part, falls, is_level}
 use Rattle.laws.specs.Tests.{In}
 use Rattle.laws.specs.Looks.{Fell, FellOf, Stopped, StoppedOf, RoundOf}
 

@@ -4,7 +4,9 @@ use Rattle.integers.specs.Reify.{byring, sides}
 use Rattle.integers.specs.Laws.{*ℤ-idl}
 use Rattle.rules.specs.declared.Vector.{Vector}
 use Rattle.rules.specs.Vectors.{◌⊕◌, ◌⊖◌, minus, scale, dot, lay, origin}
-use Rattle.rules.specs.Walk.{Axis, axis0, axis1, axis2, unit}
+use Rattle.rules.specs.declared.Axis.{Axis}
+use Rattle.rules.specs.declared.Axis.TheVariants.{Axis0 as axis0, Axis1 as axis1, Axis2 as axis2}
+use Rattle.rules.specs.Walk.{unit}
 
 -- the part along an axis
 abbrev pub part : Axis → Vector → ℤ

@@ -7,7 +7,9 @@ use Rattle.rules.specs.declared.Look.{Look}
 use Rattle.rules.specs.declared.Levels.{Levels}
 use Rattle.rules.specs.declared.Triangle.{Triangle}
 use Rattle.rules.specs.Asked.{answered}
-use Rattle.rules.specs.Walk.{Axis, axis0, axis1, axis2, unit, levels, level, Probe, Found, facing, is_level, axes, start, rounds, found, end, to_the_end}
+use Rattle.rules.specs.declared.Axis.{Axis}
+use Rattle.rules.specs.declared.Axis.TheVariants.{Axis0 as axis0, Axis1 as axis1, Axis2 as axis2}
+use Rattle.rules.specs.Walk.{unit, levels, level, Probe, Found, facing, is_level, axes, start, rounds, found, end, to_the_end}
 use Rattle.rules.specs.Pick.{probe, judging, check, pick}
 use Rattle.laws.specs.Answered.{Among, among-more, both-answered, ensured-answered}
 

@@ -1,9 +1,11 @@
 -- The powers are 1, 2, 4, .. up to the first that is at least R; how many there are, how far they reach, and what they make of the looks.
-use Rattle.std.specs.Prelude.{◌≡◌, refl, ◌⊎◌, Bool, true, false, List, [], ◌∷◌, ℕ, zero, suc, ◌+◌, ◌*◌, ◌-◌, ◌≤◌, ◌<◌, leb, length}
+use Rattle.std.specs.Prelude.{◌≡◌, refl, ◌⊎◌, Bool, true, false, List, [], ◌∷◌, ℕ, zero, suc, ◌+◌, ◌*◌, ◌-◌, ◌/◌, ◌^◌, ◌≤◌, ◌<◌, leb, max, length}
 use Rattle.std.proofs.Common.{sym, ap, ◌∙◌, inl, inr, arith, leb→le, le-leb}
 use Rattle.std.proofs.Math.Nat as NatL
 use Rattle.std.proofs.Math.Dec.{nleb→lt}
 use Rattle.std.proofs.lemmas.Bool.{lt-leb}
+use Rattle.std.proofs.lemmas.Nat.{pow_pos}
+use Rattle.std.specs.Int.{IsPowerOfTwo}
 use Rattle.rules.specs.Walk.{powers_from, powers}
 use Rattle.rules.specs.Lean.{last, last_power}
 use Rattle.laws.specs.Tests.{Each, In}
@@ -132,3 +134,34 @@ last-power-high R = last-high R 1 (powers R) (powers-reach R)
 pub powers-to-last : (R : ℕ) → Each (λ l. l ≤ last_power R) (powers R)
 unfolding last_power
 powers-to-last R = up-to-last R 1 (powers R) (powers-reach R)
+
+-- ---- they are the powers of two up to the least that is at least R, whose exponent counts them
+doubles : (l k : ℕ) → l * 2 ^ suc k ≡ (l + l) * 2 ^ k
+doubles l k = omega (arith, ap (λ (n : ℕ). l * n) (NatL.two-pow-succ k))
+
+to-power : (R l k : ℕ) (ls : List ℕ) → UpTo R l ls → R ≤ l * 2 ^ k → l * 2 ^ k / 2 < max l R → (length ls ≡ suc k) × (last ls ≡ l * 2 ^ k)
+unfolding last
+to-power R l k [] h a b = absurd h
+to-power R l zero (i ∷ []) h a b = (refl, omega (arith, h.0))
+to-power R l (suc k) (i ∷ []) h a b = absurd (omega (arith, h.0, h.1, a, b, doubles l k, NatL.mul-le-mul (NatL.le_refl l) (pow_pos k)))
+to-power R l zero (i ∷ j ∷ ks) h a b = absurd (omega (arith, h.0, h.1, a))
+to-power R l (suc k) (i ∷ j ∷ ks) h a b =
+    let r = to-power R (l + l) k (j ∷ ks) h.2 (omega (arith, a, doubles l k)) (omega (arith, b, doubles l k)) in
+    (omega (arith, r.0), r.1 ∙ sym (doubles l k))
+
+exponent : (i k : ℕ) → 2 ^ i ≤ 2 ^ k → 2 ^ k < 2 * 2 ^ i → i ≡ k
+exponent zero zero a b = refl
+exponent zero (suc k) a b = absurd (omega (arith, b, pow_pos k, NatL.two-pow-succ k))
+exponent (suc i) zero a b = absurd (omega (arith, a, pow_pos i, NatL.two-pow-succ i))
+exponent (suc i) (suc k) a b = ap suc (exponent i k (omega (arith, a, NatL.two-pow-succ i, NatL.two-pow-succ k)) (omega (arith, b, NatL.two-pow-succ i, NatL.two-pow-succ k)))
+
+module _ {R p : ℕ} (power : IsPowerOfTwo p) (high : R ≤ p) (low : p / 2 < max 1 R) where
+  powers-to : (length (powers R) ≡ suc power.0) × (last (powers R) ≡ 1 * 2 ^ power.0)
+  powers-to = to-power R 1 power.0 (powers R) (powers-reach R) (omega (arith, high, power.1)) (omega (arith, low, power.1))
+
+  pub last-power-is : p ≡ last_power R
+  unfolding last_power
+  last-power-is = omega (arith, power.1, powers-to.1)
+
+  pub powers-counted : {i : ℕ} → 2 ^ i ≤ p → p < 2 * 2 ^ i → suc i ≡ length (powers R)
+  powers-counted {i} a b = omega (arith, exponent i power.0 (omega (arith, a, power.1)) (omega (arith, b, power.1)), powers-to.0)

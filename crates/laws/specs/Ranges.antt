@@ -11,7 +11,7 @@ use Rattle.rules.specs.declared.Look.{Look}
 use Rattle.rules.specs.declared.Look.TheVariants.{Outside}
 use Rattle.rules.specs.declared.Triangle.{Triangle}
 use Rattle.rules.specs.declared.Pair.{Pair}
-use Rattle.rules.specs.declared.Choice.{Choice}
+use Rattle.rules.specs.Answers.{Choice}
 use Rattle.rules.specs.Vectors.{◌⊕◌, ◌⊖◌, scale, lay}
 use Rattle.rules.specs.Asked.{answered}
 use Rattle.rules.specs.Walk.{powers_from, powers, Probe, first, second, way, step, round}

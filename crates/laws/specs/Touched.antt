@@ -2,10 +2,8 @@
 use Rattle.std.specs.Prelude.{◌≡◌, refl, List}
 use Rattle.std.proofs.Common.{subst}
 use Rattle.rules.specs.declared.Vector.{Vector}
-use Rattle.rules.specs.declared.Pick.{Pick}
-use Rattle.rules.specs.declared.Pick.TheVariants.{Accepted, Refused}
-use Rattle.rules.specs.declared.Touch.{Touch}
-use Rattle.rules.specs.declared.Touch.TheVariants.{Guess, Refused as TouchRefused}
+use Rattle.rules.specs.Answers.{Pick, Touch}
+use Rattle.std.specs.Prelude.{Ok as Accepted, Err as Refused, Ok as Guess, Err as TouchRefused}
 use Rattle.rules.specs.Asked.{Asked}
 use Rattle.rules.specs.Walk.{Stop, Found}
 use Rattle.rules.specs.Pick.{answer}
@@ -15,7 +13,7 @@ use Rattle.laws.specs.Answers.{AnswerSays, answer-says}
 
 -- a touch without its mark
 abbrev pub unmarked : Touch → Pick
-unmarked (Guess a) = Accepted a
+unmarked (Guess g) = Accepted g.answer
 unmarked (TouchRefused r) = Refused r
 
 unmarked-again : (x : Pick) → x ≡ unmarked (marked x)

@@ -8,7 +8,9 @@ use Rattle.rules.specs.declared.Triangle.{Triangle}
 use Rattle.rules.specs.declared.Pair.{Pair}
 use Rattle.rules.specs.declared.Pair.TheVariants.{P01, P02, P10, P12, P20, P21}
 use Rattle.rules.specs.Vectors.{◌⊕◌, ◌⊖◌, scale, dot, cross, det}
-use Rattle.rules.specs.Walk.{Axis, axis0, axis1, axis2, triangle, vector_of, with_vector, from, to, first, second, with, step, normal}
+use Rattle.rules.specs.declared.Axis.{Axis}
+use Rattle.rules.specs.declared.Axis.TheVariants.{Axis0 as axis0, Axis1 as axis1, Axis2 as axis2}
+use Rattle.rules.specs.Walk.{triangle, vector_of, with_vector, from, to, first, second, with, step, normal}
 use Rattle.laws.specs.Parts.{vector-eq, of3, scale_one}
 
 -- ---- P of each triangle vector, and so of m_k, of m_l and of a triangle with a new m_k

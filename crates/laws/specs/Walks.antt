@@ -8,8 +8,8 @@ use Rattle.std.specs.Prelude.{length}
 use Rattle.rules.specs.declared.Vector.{Vector}
 use Rattle.rules.specs.declared.Triangle.{Triangle}
 use Rattle.rules.specs.declared.Pair.{Pair}
-use Rattle.rules.specs.declared.Choice.{Choice}
-use Rattle.rules.specs.declared.Choice.TheVariants.{Nothing, Chosen}
+use Rattle.rules.specs.Answers.{Choice}
+use Rattle.std.specs.Prelude.{None as Nothing, Some as Chosen}
 use Rattle.rules.specs.Asked.{answered, refused}
 use Rattle.rules.specs.Walk.{Stop, stop, Probe, step, walk}
 use Rattle.laws.specs.Says.{Says, Few, says-answer, says-refuse, few-bind, few-fewer, says-asked}

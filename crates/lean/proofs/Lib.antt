@@ -1,5 +1,3 @@
--- A part against 0; the spread, side by side; the last power; the answer.
-pub mod Zeros
+-- The spread, side by side; the answer.
 pub mod Spreading
-pub mod Lasting
 pub mod Knowing

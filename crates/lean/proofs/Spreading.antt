@@ -38,12 +38,6 @@ unfolding spread longest only takes_part
 spread-is v m = simp (longest-kept, one_more) (omega arith)
 
 -- ---- the sums fit
-pub two-fit : (a b : Bool) → Fits w32 (bool_byte a + bool_byte b)
-two-fit a b = omega (arith, at_most_one a, at_most_one b)
-
-pub three-fit : (a b c : Bool) → Fits w32 (bool_byte a + bool_byte b + bool_byte c)
-three-fit a b c = omega (arith, at_most_one a, at_most_one b, at_most_one c)
-
 -- 3·4092²
 side-of-low : (part : Bool) {k l : Vector} → Bounded 2046 k → Bounded 2046 l → side_of part (l ⊖ k) ≤ 50233392
 side-of-low true h i = squared-low (bounded-difference i h)

@@ -1,8 +1,7 @@
 -- What `known_lean` promises settles its answer.
 use Rattle.std.specs.Prelude.{◌≡◌, ℤ}
 use Rattle.std.proofs.Common.{sym, ◌∙◌}
-use Rattle.rules.specs.declared.Pick.{Pick}
-use Rattle.rules.specs.declared.Lean.{Lean}
+use Rattle.rules.specs.Answers.{Pick, Lean}
 use Rattle.rules.specs.Lean.{LeanPromise}
 
 pub lean-settled : {pick : Pick} {reach : ℤ} {r t : Lean} → LeanPromise pick reach r → LeanPromise pick reach t → r ≡ t

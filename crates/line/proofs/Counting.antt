@@ -1,35 +1,38 @@
 -- The loop of `read_digits`: the digits left say the number behind those that were read, and i digits say less than 10^i.
 use mathlib.Core.Path.{◌≡◌, refl, sym, ap, ◌∙◌}
 use mathlib.Core.Bool.{Bool, true, false, ◌&&◌}
+use mathlib.Core.Logic.{◌⊎◌, inl, inr}
 use mathlib.Core.List.{List}
 use Prim.Native.Nat.{ℕ, ◌+◌, ◌-◌, ◌*◌, ◌^◌, ◌≤◌, ◌<◌}
 use native.Mathlib.Nat.{pow-suc, pow-le-pow_right}
 use native.Mathlib.Numerals.{add-one}
 use native.Mathlib.Omega.{arith}
-use lib.Dec.{leb, lit<}
+use lib.Dec.{eqb, leb, lit<}
+use lib.IntN.{pos}
 use lib.ListN.{length, drop, get_or, drop_of_length-le}
+use Rattle.std.specs.Prelude.{Some, None}
 use mir.Syntax.{w64}
-use mir.Val.{Fits}
-use borrow.Author.Tests.{le-leb, lt-leb}
+use mir.Val.{to_z}
+use mir.Facts.{to_z_pos}
+use borrow.Author.Tests.{le-leb, lt-leb, eqb-true}
 use Rattle.integers.specs.Tests.{not-second}
 use Rattle.rules.specs.Decimals.{is_digit, are_digits, value}
 use Rattle.rules.specs.Session.{few_digits}
 use Rattle.text.specs.Decimals.{digit-range}
 use Rattle.text.specs.Places.{drop_here}
-use Rattle.line.specs.declared.Digits.TheVariants.{Value, NoDigits}
-use Rattle.line.specs.Reading.{digits_of, DigitsRead}
+use Rattle.line.specs.Reading.{digits_of}
 
 -- ---- ways out that give no digits
-no-digits : (part : List ℕ) → few_digits part ≡ false → DigitsRead part NoDigits
-no-digits part e = record { is = sym (rw (e, digits_of)) }
+no-digits : (part : List ℕ) → few_digits part ≡ false → None ≡ digits_of part
+unfolding digits_of
+no-digits part e = sym (rw (e, digits_of))
 
-pub none : {part : List ℕ} → length part < 1 → DigitsRead part NoDigits
+pub other-length : (part : List ℕ) {t : Bool} → t ≡ eqb (length part) 0 → (t ≡ true) ⊎ ((t ≡ false) × (10 < length part)) → None ≡ digits_of part
 unfolding few_digits
-none {part} h = no-digits part (ap (λ (t : Bool). t && (leb (length part) 10 && are_digits part)) (lt-leb 1 (length part) h))
-
-pub too_many : {part : List ℕ} → 10 < length part → DigitsRead part NoDigits
-unfolding few_digits
-too_many {part} h = no-digits part (not-second (leb 1 (length part)) (ap (λ (t : Bool). t && are_digits part) (lt-leb (length part) 10 h)))
+other-length part e (inl h) =
+    let z = eqb-true (length part) 0 (sym e ∙ h) in
+    no-digits part (ap (λ (t : Bool). t && (leb (length part) 10 && are_digits part)) (lt-leb 1 (length part) (omega arith)))
+other-length part e (inr h) = no-digits part (not-second (leb 1 (length part)) (ap (λ (t : Bool). t && are_digits part) (lt-leb (length part) 10 h.1)))
 
 pub record Reading (part : List ℕ) (i v : ℕ) : Type 0 where
   pub some : 1 ≤ length part
@@ -52,9 +55,6 @@ module _ {part : List ℕ} {i v : ℕ} (R : Reading part i v) where
       let s = R.small in
       omega arith
 
-  pub tenfold-fits : Fits w64 (v * 10)
-  tenfold-fits = let u = under in record { fits = omega arith }
-
   module _ {r : Bool} (h : i < length part) (e : r ≡ is_digit (get_or part i 0)) where
     abbrev here : ℕ
     here = get_or part i 0
@@ -64,12 +64,6 @@ module _ {part : List ℕ} {i v : ℕ} (R : Reading part i v) where
 
     digit-high : r ≡ true → here ≤ 57
     digit-high y = (digit-range here (sym e ∙ y)).1
-
-    pub digit-fits : r ≡ true → Fits w64 (here - 48)
-    digit-fits y = let high = digit-high y in record { fits = omega arith }
-
-    pub next_fits : r ≡ true → Fits w64 (v * 10 + (here - 48))
-    next_fits y = let high = digit-high y in let u = under in record { fits = omega arith }
 
     pub reading-more : r ≡ true → Reading part (i + 1) (v * 10 + (here - 48))
     unfolding value are_digits
@@ -86,16 +80,17 @@ module _ {part : List ℕ} {i v : ℕ} (R : Reading part i v) where
       digits = R.digits ∙ ap are_digits (drop_here part i h) ∙ ap (λ (t : Bool). t && are_digits (drop (i + 1) part)) (sym e ∙ y);
     }
 
-    pub no_digit : r ≡ false → DigitsRead part NoDigits
+    pub no_digit : r ≡ false → None ≡ digits_of part
     unfolding few_digits are_digits
     no_digit y = no-digits part (not-second (leb 1 (length part)) (not-second (leb (length part) 10) (R.digits ∙ ap are_digits (drop_here part i h) ∙ ap (λ (t : Bool). t && are_digits (drop (i + 1) part)) (sym e ∙ y))))
 
-  pub all_read : length part ≤ i → DigitsRead part (Value v)
-  unfolding few_digits are_digits value
+  pub all_read : length part ≤ i → Some (to_z w64 v) ≡ digits_of part
+  unfolding few_digits are_digits value digits_of
   all_read h =
       let z = drop_of_length-le part h in
+      let u = under in
       let few : few_digits part ≡ true =
       ap (λ (t : Bool). t && (leb (length part) 10 && are_digits part)) (le-leb 1 (length part) R.some)
       ∙ ap (λ (t : Bool). t && are_digits part) (le-leb (length part) 10 R.few)
       ∙ R.digits ∙ ap are_digits z in
-      record { is = sym (rw (few, digits_of) (ap Value (R.says ∙ ap (value v) z))) }
+      ap Some (to_z_pos w64 (omega arith)) ∙ sym (rw (few, digits_of) (ap (λ (n : ℕ). Some (pos n)) (R.says ∙ ap (value v) z)))

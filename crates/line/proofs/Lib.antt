@@ -1,6 +1,5 @@
 pub mod Finding
 pub mod Counting
 pub mod Numbers
-pub mod Fields
-pub mod Threes
-pub mod Nines
+pub mod Steps
+pub mod Whole

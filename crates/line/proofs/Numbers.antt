@@ -1,108 +1,116 @@
--- Each way out of `positive`, `negative` and `read_number`.
+-- A number: its digits, its sign, and whether 32 bits hold it.
 use mathlib.Core.Path.{◌≡◌, refl, sym, ap, subst, ◌∙◌}
-use mathlib.Core.Logic.{◌≢◌}
 use mathlib.Core.Bool.{Bool, true, false, ◌&&◌}
+use mathlib.Core.Logic.{◌≢◌}
 use mathlib.Core.List.{List, [], ◌∷◌}
-use Prim.Native.Nat.{ℕ, zero, suc, ◌-◌, ◌≤◌, ◌<◌, ◌^◌}
-use native.Mathlib.Nat.{zero-add}
+use Prim.Native.Nat.{ℕ, zero, suc, ◌-◌, ◌<◌}
 use native.Mathlib.Omega.{arith}
-use lib.IntN.{ℤ, pos, negsuc, ◌-ℤ◌}
-use lib.Signed.{mag}
+use lib.IntN.{ℤ, pos, negsuc, ◌-ℤ◌, +ℤ_idl}
 use lib.ListN.{length, take, drop, get_or, length-drop}
 use lib.Seq.{take_all}
-use borrow.Author.Tests.{le-leb, lt-leb, eq-eqb, ne_eqb}
-use mir.Syntax.{w32}
+use lib.Dec.{eqb}
+use borrow.Author.Tests.{eq-eqb, ne_eqb, eqb-true, le-leb, lt-leb}
+use mir.Syntax.{w32, w64}
 use mir.Val.{SFits, to_z, of_z}
-use mir.Facts.{to_z_pos, to_z-of_z}
-use Rattle.rules.specs.declared.Number.{Number}
-use Rattle.rules.specs.declared.Number.TheVariants.{Whole, NoNumber}
+use mir.Facts.{to_z-of_z}
+use Rattle.std.specs.Prelude.{Option, Some, None, Result, Ok, Err}
+use Rattle.std.specs.Prelude.{T}
+use Rattle.std.specs.Option.{is_some}
+use Rattle.std.specs.Result.{OkIff, result_ok}
+use Rattle.rules.specs.Answers.{Number}
 use Rattle.rules.specs.Solids.{between}
+use Rattle.rules.specs.Decimals.{value}
 use Rattle.rules.specs.Session.{few_digits, within32, signed, minus, number}
-use Rattle.line.specs.declared.Digits.{Digits}
-use Rattle.line.specs.declared.Digits.TheVariants.{Value}
-use Rattle.line.specs.Reading.{digits_of, DigitsRead, NumberRead, signed_of}
+use Rattle.line.specs.Reading.{digits_of, NumberRead}
 
--- ---- within 32 bits
-inside : (z : ℤ) → between (negsuc 2147483647) z (pos 2147483647) ≡ true → within32 z ≡ Whole z
-unfolding within32
-inside z e = rw (e, within32)
-
-outside : (z : ℤ) → between (negsuc 2147483647) z (pos 2147483647) ≡ false → within32 z ≡ NoNumber
-unfolding within32
-outside z e = rw (e, within32)
-
-module _ {d : Digits} {v : ℕ} (e : d ≡ Value v) where
-  pub positive-whole : v ≤ 2147483647 → Whole (to_z w32 v) ≡ signed_of pos d
-  unfolding between
-  positive-whole h = ap Whole (to_z_pos w32 (omega arith)) ∙ sym (ap (signed_of pos) e ∙ inside (pos v) (le-leb v 2147483647 h))
-
-  pub positive-outside : 2147483647 < v → NoNumber ≡ signed_of pos d
-  unfolding between
-  positive-outside h = sym (ap (signed_of pos) e ∙ outside (pos v) (lt-leb v 2147483647 h))
-
--- ---- the opposite
-opposite-small : (v : ℕ) → v ≤ 2147483648 → mag (minus v) < 2147483648
-opposite-small zero h = omega arith
-opposite-small (suc k) h = h
-
-opposite-inside : (v : ℕ) → v ≤ 2147483648 → between (negsuc 2147483647) (minus v) (pos 2147483647) ≡ true
+-- ---- 32 bits
+held : (z : ℤ) → SFits w32 z → between (negsuc 2147483647) z (pos 2147483647) ≡ true
 unfolding between
-opposite-inside zero h = refl
-opposite-inside (suc k) h = ap (λ (t : Bool). t && true) (le-leb k 2147483647 (omega arith))
+held (pos n) f = le-leb n 2147483647 (let h = f.sfits in omega arith)
+held (negsuc n) f = ap (λ (t : Bool). t && true) (le-leb n 2147483647 (let h = f.sfits in omega arith))
 
-opposite-outside : (v : ℕ) → 2147483648 < v → between (negsuc 2147483647) (minus v) (pos 2147483647) ≡ false
+not-held : (z : ℤ) → ¬ (SFits w32 z) → between (negsuc 2147483647) z (pos 2147483647) ≡ false
 unfolding between
-opposite-outside zero h = absurd (omega arith)
-opposite-outside (suc k) h = ap (λ (t : Bool). t && true) (lt-leb k 2147483647 (omega arith))
+not-held (pos n) g = let h : ¬ (n < 2147483648) = λ l. g (record { sfits = l }) in lt-leb n 2147483647 (omega arith)
+not-held (negsuc n) g = let h : ¬ (n < 2147483648) = λ l. g (record { sfits = l }) in ap (λ (t : Bool). t && true) (lt-leb n 2147483647 (omega arith))
 
-less_one : (k : ℕ) → negsuc 0 -ℤ pos k ≡ negsuc k
-less_one zero = refl
-less_one (suc j) = ap (λ (n : ℕ). negsuc (suc n)) (zero-add j)
+pub in_32 : {E : Type 0} (r : Result ℤ E) (z : ℤ) → OkIff r (SFits w32 z) z → result_ok r ≡ within32 z
+unfolding within32
+in_32 (Ok x) z h = ap Some h.1 ∙ sym (rw (held z h.0, within32) refl)
+in_32 (Err e) z h = sym (rw (not-held z h, within32) refl)
 
-opposite-is : (v : ℕ) → v ≢ 0 → v ≤ 2147483648 → negsuc 0 -ℤ to_z w32 (v - 1) ≡ minus v
-opposite-is zero n h = absurd (n refl)
-opposite-is (suc k) n h =
-    let low : suc k - 1 < 2 ^ 31 = omega arith in
-    let same : suc k - 1 ≡ k = omega arith in
-    ap (λ (z : ℤ). negsuc 0 -ℤ z) (to_z_pos w32 low ∙ ap pos same) ∙ less_one k
+-- ---- the digits
+module _ (part : List ℕ) where
+  some_digits : {v : ℤ} → Some v ≡ digits_of part → (few_digits part ≡ true) × (v ≡ pos (value 0 part))
+  unfolding digits_of
+  some_digits {v} = by (few_digits part) refl
+    where
+      this : Option ℤ → ℤ
+      this None = v
+      this (Some x) = x
 
-pub negative-zero : {v : ℕ} {d : Digits} → v ≡ 0 → d ≡ Value v → Whole (pos 0) ≡ signed_of minus d
-negative-zero {v} z e = sym (ap (signed_of minus) (e ∙ ap Value z) ∙ inside (pos 0) (opposite-inside 0 (omega arith)))
+      by : (t : Bool) → few_digits part ≡ t → Some v ≡ digits_of part → (few_digits part ≡ true) × (v ≡ pos (value 0 part))
+      by true e s = (e, let d : Some v ≡ Some (pos (value 0 part)) = rw (e, digits_of) at s in ap this d)
+      by false e s = absurd (subst T (ap is_some (rw (e, digits_of) at s)) tt)
 
-module _ {v : ℕ} (n : v ≢ 0) (h : v ≤ 2147483648) where
-  abbrev opposite : ℤ
-  opposite = negsuc 0 -ℤ to_z w32 (v - 1)
+  signed_some : (sign : ℕ → ℤ) {v : ℤ} → Some v ≡ digits_of part → signed sign part ≡ within32 (sign (value 0 part))
+  unfolding signed
+  signed_some sign s = rw ((some_digits s).0, signed) refl
 
-  pub opposite-fits : SFits w32 opposite
-  opposite-fits = subst (SFits w32) (sym (opposite-is v n h)) (record { sfits = opposite-small v h })
-
-  pub negative-whole : {d : Digits} → d ≡ Value v → Whole (to_z w32 (of_z w32 opposite)) ≡ signed_of minus d
-  negative-whole e = ap Whole (to_z-of_z opposite-fits ∙ opposite-is v n h) ∙ sym (ap (signed_of minus) e ∙ inside (minus v) (opposite-inside v h))
-
-pub negative-outside : {v : ℕ} {d : Digits} → 2147483648 < v → d ≡ Value v → NoNumber ≡ signed_of minus d
-negative-outside {v} h e = sym (ap (signed_of minus) e ∙ outside (minus v) (opposite-outside v h))
+  signed-none : (sign : ℕ → ℤ) → None ≡ digits_of part → signed sign part ≡ None
+  unfolding digits_of signed
+  signed-none sign = by (few_digits part) refl
+    where
+      by : (t : Bool) → few_digits part ≡ t → None ≡ digits_of part → signed sign part ≡ None
+      by true e s = absurd (subst T (ap is_some (sym (rw (e, digits_of) at s))) tt)
+      by false e s = rw (e, signed) refl
 
 -- ---- the sign
-digits-signed : (sign : ℕ → ℤ) {part : List ℕ} {d : Digits} {r : Number} → DigitsRead part d → r ≡ signed_of sign d → r ≡ signed sign part
-unfolding signed
-digits-signed sign {part} D e = e ∙ ap (signed_of sign) D.is ∙ by (few_digits part) refl
+abbrev opposite : ℤ → ℤ
+opposite v = pos 0 -ℤ to_z w64 (of_z w64 v)
+
+opposite-minus : {v : ℤ} (part : List ℕ) → SFits w64 v → Some v ≡ digits_of part → opposite v ≡ minus (value 0 part)
+opposite-minus part f d = ap (λ (z : ℤ). pos 0 -ℤ z) (to_z-of_z f ∙ (some_digits part d).1) ∙ +ℤ_idl (minus (value 0 part))
+
+pub opposite-fits : {v : ℤ} (part : List ℕ) → SFits w64 v → Some v ≡ digits_of part → SFits w64 (opposite v)
+opposite-fits part f d = subst (SFits w64) (sym (opposite-minus part f d)) (small (value 0 part) (subst (SFits w64) (some_digits part d).1 f))
   where
-    by : (t : Bool) → few_digits part ≡ t → signed_of sign (digits_of part) ≡ signed sign part
-    by true f = rw (f, digits_of, signed)
-    by false f = rw (f, digits_of, signed)
+    small : (n : ℕ) → SFits w64 (pos n) → SFits w64 (minus n)
+    small zero h = h
+    small (suc k) h = record { sfits = let l = h.sfits in omega arith }
 
-pub empty : {part : List ℕ} → length part < 1 → NumberRead part NoNumber
-unfolding number signed few_digits
-empty {part = []} h = record { is = refl }
-empty {part = b ∷ more} h = absurd (omega arith)
+module _ {part : List ℕ} where
+  pub empty : {t : Bool} → t ≡ eqb (length part) 0 → t ≡ true → NumberRead part None
+  unfolding number signed few_digits
+  empty e h = none part (eqb-true (length part) 0 (sym e ∙ h))
+    where
+      none : (part : List ℕ) → length part ≡ 0 → NumberRead part None
+      none [] z = record { is = refl }
+      none (b ∷ more) z = absurd (omega arith)
 
-module _ {part : List ℕ} {d : Digits} {r : Number} where
-  pub with-minus : get_or part 0 0 ≡ 45 → DigitsRead (take (length part - 1) (drop 1 part)) d → r ≡ signed_of minus d → NumberRead part r
-  unfolding number
-  with-minus e D n =
-      let all = take_all (length part - 1) (drop 1 part) (simp length-drop (omega arith)) in
-      record { is = digits-signed minus (rw all at D) n ∙ sym (rw (eq-eqb (get_or part 0 0) 45 e, number)) }
+  module _ {r : Number} where
+    of_minus : get_or part 0 0 ≡ 45 → r ≡ signed minus (drop 1 part) → NumberRead part r
+    unfolding number
+    of_minus e s = record { is = s ∙ sym (rw (eq-eqb (get_or part 0 0) 45 e, number) refl) }
 
-  pub without-minus : get_or part 0 0 ≢ 45 → DigitsRead part d → r ≡ signed_of pos d → NumberRead part r
-  unfolding number
-  without-minus e D p = record { is = digits-signed pos D p ∙ sym (rw (ne_eqb (get_or part 0 0) 45 e, number)) }
+    without-minus : get_or part 0 0 ≢ 45 → r ≡ signed pos part → NumberRead part r
+    unfolding number
+    without-minus e s = record { is = s ∙ sym (rw (ne_eqb (get_or part 0 0) 45 e, number) refl) }
+
+    pub minus-none : get_or part 0 0 ≡ 45 → None ≡ digits_of (take (length part - 1) (drop 1 part)) → r ≡ None → NumberRead part r
+    minus-none e d n =
+        let all = take_all (length part - 1) (drop 1 part) (simp length-drop (omega arith)) in
+        of_minus e (n ∙ sym (signed-none (drop 1 part) minus (rw all at d)))
+
+    pub plus-none : get_or part 0 0 ≢ 45 → None ≡ digits_of part → r ≡ None → NumberRead part r
+    plus-none e d n = without-minus e (n ∙ sym (signed-none part pos d))
+
+    module _ {v : ℤ} (f : SFits w64 v) where
+      pub plus-some : get_or part 0 0 ≢ 45 → Some v ≡ digits_of part → r ≡ within32 (to_z w64 (of_z w64 v)) → NumberRead part r
+      plus-some e d n = without-minus e (n ∙ ap within32 (to_z-of_z f ∙ (some_digits part d).1) ∙ sym (signed_some part pos d))
+
+      pub minus-some : get_or part 0 0 ≡ 45 → Some v ≡ digits_of (take (length part - 1) (drop 1 part)) → r ≡ within32 (to_z w64 (of_z w64 (opposite v))) → NumberRead part r
+      minus-some e d n =
+          let all = take_all (length part - 1) (drop 1 part) (simp length-drop (omega arith)) in
+          let plain = rw all at d in
+          of_minus e (n ∙ ap within32 (to_z-of_z (opposite-fits _ f d) ∙ opposite-minus (drop 1 part) f plain) ∙ sym (signed_some (drop 1 part) minus plain))

@@ -1,20 +1,15 @@
 -- What the functions that read a line find, told by the session's definitions.
-use Rattle.std.specs.Prelude.{◌≡◌, true, false, List, [], ◌∷◌, ℕ, ◌+◌, ◌-◌, ◌≤◌, ◌<◌, leb, ℤ, length, take, drop}
+use Rattle.std.specs.Prelude.{◌≡◌, true, false, List, [], ◌∷◌, ℕ, ◌+◌, ◌-◌, ◌≤◌, ◌<◌, ℤ, pos, Option, Some, None, length, take, drop}
+use Rattle.std.proofs.Common.{Bor}
+use Rattle.rules.specs.declared.Wedge.{Wedge}
 use Rattle.rules.specs.declared.Vector.{Vector}
-use Rattle.rules.specs.declared.Number.{Number}
-use Rattle.rules.specs.declared.Number.TheVariants.{NoNumber}
 use Rattle.rules.specs.declared.Question.{Question}
-use Rattle.rules.specs.declared.Line.{Line}
-use Rattle.rules.specs.declared.Line.TheVariants.{OtherForm}
+use Rattle.rules.specs.Answers.{Number, Line}
+use Rattle.std.specs.Prelude.{None as OtherForm}
 use Rattle.rules.specs.Vectors.{vector}
 use Rattle.rules.specs.Decimals.{value}
-use Rattle.rules.specs.Session.{parts, few_digits, within32, number, fields, next, question}
-use Rattle.line.specs.declared.Digits.{Digits}
-use Rattle.line.specs.declared.Digits.TheVariants.{Value, NoDigits}
-use Rattle.line.specs.declared.Field.{Field}
-use Rattle.line.specs.declared.Field.TheVariants.{Holds, NoField}
-use Rattle.line.specs.declared.Three.{Three}
-use Rattle.line.specs.declared.Three.TheVariants.{Values, NoThree}
+use Rattle.rules.specs.Session.{parts, few_digits, number, fields, next, question}
+use Rattle.line.specs.declared.Fields.{Fields}
 
 -- the bytes from place `at` up to place `end`
 abbrev pub stretch : List ℕ → ℕ → ℕ → List ℕ
@@ -28,52 +23,47 @@ pub record PartEnds (s : List ℕ) (at mark end : ℕ) : Type 0 where
   pub at-end : length s ≤ end → (last : List ℕ → List (List ℕ)) → parts last mark [] (drop at s) ≡ last (stretch s at end)
 
 -- ---- numbers
-abbrev pub digits_of : List ℕ → Digits
-digits_of part = elim (few_digits part) [ true ↦ Value (value 0 part) | false ↦ NoDigits ]
-
-pub record DigitsRead (part : List ℕ) (r : Digits) : Type 0 where
-  pub is : r ≡ digits_of part
+unfoldable pub digits_of : List ℕ → Option ℤ
+digits_of part = elim (few_digits part) [ true ↦ Some (pos (value 0 part)) | false ↦ None ]
 
 pub record NumberRead (part : List ℕ) (r : Number) : Type 0 where
   pub is : r ≡ number part
 
-abbrev pub signed_of : (ℕ → ℤ) → Digits → Number
-signed_of sign (Value v) = within32 (sign v)
-signed_of sign NoDigits = NoNumber
+-- ---- what is read of a line's fields goes on with what was read and the other fields, or the line is of another form
+abbrev pub Reading : Type 0 → Type 0
+Reading A = List (List ℕ) → (A → List (List ℕ) → Line) → Line
 
--- ---- fields: those that begin at place `at` or behind it. There is none behind the line's end
-unfoldable pub rest : List ℕ → ℕ → List (List ℕ)
-rest line at = elim (leb at (length line)) [ true ↦ fields (drop at line) | false ↦ [] ]
+unfoldable pub then_read : {A B : Type 0} → Reading A → (A → Reading B) → Reading B
+then_read first second fs k = first fs λ a others. second a others k
 
-abbrev pub with_field : List ℕ → Field → (ℤ → List (List ℕ) → Line) → Line
-with_field line (Holds z behind) k = k z (rest line behind)
-with_field line NoField k = OtherForm
+unfoldable pub no_more : {A : Type 0} → A → Reading A
+no_more a fs k = k a fs
 
-pub record FieldAt (line : List ℕ) (at : ℕ) (r : Field) : Type 0 where
-  pub is : (k : ℤ → List (List ℕ) → Line) → next (rest line at) k ≡ with_field line r k
+unfoldable pub next_wedge : Reading Wedge
+next_wedge = then_read next λ a. then_read next λ b. then_read next λ c. then_read next λ h. no_more (record { a = a; b = b; c = c; h = h })
 
--- ---- three fields
-abbrev pub next_three : List (List ℕ) → (Vector → List (List ℕ) → Line) → Line
-next_three fs k = next fs λ x others. next others λ y others. next others λ z others. k (vector x y z) others
+unfoldable pub next_three : Reading Vector
+next_three = then_read next λ x. then_read next λ y. then_read next λ z. no_more (vector x y z)
 
-abbrev pub with_three : List ℕ → Three → (Vector → List (List ℕ) → Line) → Line
-with_three line (Values v behind) k = k v (rest line behind)
-with_three line NoThree k = OtherForm
+unfoldable pub next_question : Reading Question
+next_question =
+    then_read next_wedge λ wedge. then_read next_three λ p. then_read next λ frame. then_read next λ reach.
+    no_more (record { wedge = wedge; p = p; frame = frame; reach = reach })
 
-pub record ThreeAt (line : List ℕ) (at : ℕ) (r : Three) : Type 0 where
-  pub is : (k : Vector → List (List ℕ) → Line) → next_three (rest line at) k ≡ with_three line r k
+-- the fields that are left to read
+abbrev pub fields_of : Option (Bor (List ℕ)) → List (List ℕ)
+fields_of None = []
+fields_of (Some rest) = fields rest.now
 
--- ---- nine: a b c, then h and two parts of p, then the third, frame and R
-abbrev pub asked : Vector → Vector → Vector → Question
-asked u v w = record {
-  wedge = record { a = u.x; b = u.y; c = u.z; h = v.x };
-  p = vector v.y v.z w.x;
-  frame = w.y;
-  reach = w.z;
-}
+abbrev pub left : Fields → List (List ℕ)
+left fs = fields_of fs.rest
 
-pub record Asking (u v w : Vector) (r : Question) : Type 0 where
-  pub is : r ≡ asked u v w
+abbrev pub going-on : {A : Type 0} → Option A → (A → Line) → Line
+going-on None k = OtherForm
+going-on (Some a) k = k a
+
+pub record Reads {A : Type 0} (reading : Reading A) (before : Fields) (r : Option A) (after : Fields) : Type 0 where
+  pub is : (k : A → List (List ℕ) → Line) → reading (left before) k ≡ going-on r (λ a. k a (left after))
 
 pub record LineRead (line : List ℕ) (r : Line) : Type 0 where
   pub is : r ≡ question line

@@ -1,140 +1,161 @@
--- The loops of the header's reader: what the rest of the input gives from here on is what it gave at the start.
-use mathlib.Core.Path.{◌≡◌, refl, sym, ap, ◌∙◌}
-use mathlib.Core.Bool.{Bool, true, false, not, ◌&&◌}
-use mathlib.Core.List.{List, ◌∷◌}
-use Prim.Native.Nat.{ℕ, ◌+◌, ◌-◌, ◌*◌, ◌≤◌, ◌<◌, min}
-use native.Mathlib.Nat.{add-zero}
-use native.Mathlib.Omega.{arith}
-use lib.ListN.{length, get_or, drop, drop_of_length-le}
-use lib.Dec.{eqb}
-use borrow.Author.Tests.{eq-eqb, ne_eqb, not-true, not-false}
+-- The reader's searches in the bytes from a place on: "P4" stands there, a comment's line end is the first, and what the rest of the
+-- bytes gives from here on is what all of them gave at the start.
+use Rattle.std.specs.Prelude.{◌≡◌, refl, Bool, true, false, not, ◌&&◌, List, [], ◌∷◌, ℕ, suc, ◌+◌, ◌-◌, ◌*◌, ◌≤◌, ◌<◌, min, length, drop, get_or, eqb, Option, Some, None, Ok, Err}
+use Rattle.std.proofs.Common.{sym, ap, ◌∙◌, arith, cond, drop_of_length-le, eq-eqb, ne_eqb, eqb-true}
+use Rattle.std.proofs.lemmas.Bool.{not-true, not-false, eqb-false}
+use Rattle.std.specs.List.{starts_with, position, position_from}
+use Rattle.std.proofs.lemmas.Iterator.Adapters.{position_from-zero}
 use Rattle.rules.specs.Decimals.{is_digit}
-use Rattle.rules.specs.P4.{is_end, is_white, stands, comment_at, mix, digits_at}
+use Rattle.rules.specs.P4.{Judged, good, wrong, is_end, is_white, stands, comment_at, mix, digits_at}
 use Rattle.text.specs.Places.{drop_here}
 use Rattle.p4_laws.specs.Scans.{mix-in, mix-white, mix-hash, mix-stop, comment-end, comment-more, digit-more, digit-stop, Alike, alike, alike-trans, alike_is}
-use Rattle.p4_header.specs.declared.PlaceRead.TheVariants.{At, NotAt}
-use Rattle.p4_header.specs.Reads.{Stands, Comment, Mix, Digits}
+use Rattle.rules.specs.declared.RefusedStack.{RefusedStack}
+use Rattle.p4_header.specs.Reads.{Comment, Mix, Digits}
 
--- ---- a word
-pub record Standing (word s : List ℕ) (at i : ℕ) : Type 0 where
-  pub inside : i ≤ length word
-  pub rest : stands (drop i word) (drop (at + i) s) ≡ stands word (drop at s)
+pub refused : {x : RefusedStack} {n p : ℕ} → x ≡ record { number = n; value = p } → {A : Type 0} → ◌≡◌ {A = Judged A} (wrong x.number x.value) (wrong n p)
+refused q = ap (λ (x : RefusedStack). wrong x.number x.value) q
 
-pub standing-start : (word s : List ℕ) (at : ℕ) → Standing word s at 0
-standing-start word s at = record { inside = omega arith; rest = ap (λ (k : ℕ). stands word (drop k s)) (add-zero at) }
+-- ---- "P4"
+eqb-sym : (m n : ℕ) → eqb m n ≡ eqb n m
+eqb-sym m n = by (eqb m n) refl
+  where
+    by : (t : Bool) → eqb m n ≡ t → eqb m n ≡ eqb n m
+    by true e = e ∙ sym (eq-eqb n m (sym (eqb-true m n e)))
+    by false e = e ∙ sym (ne_eqb n m (λ h. eqb-false m n e (sym h)))
 
-module _ {word s : List ℕ} {at i : ℕ} (S : Standing word s at i) where
-  module _ (h : i < length word) where
-    pub standing-short : length s ≤ at + i → Stands word s at false
-    unfolding stands
-    standing-short l = record { is = sym (sym S.rest ∙ (λ k. stands (drop_here word i h k) (drop_of_length-le s l k))) }
+pub stands-first : (word s : List ℕ) → starts_with eqb s word ≡ stands word s
+unfolding stands
+stands-first [] s = refl
+stands-first (b ∷ bs) [] = refl
+stands-first (b ∷ bs) (c ∷ cs) = ap (λ (t : Bool). t && starts_with eqb cs bs) (eqb-sym b c) ∙ ap (λ (t : Bool). eqb c b && t) (stands-first bs cs)
 
-    module _ (l : at + i < length s) where
-      here : stands word (drop at s) ≡ (eqb (get_or s (at + i) 0) (get_or word i 0) && stands (drop (i + 1) word) (drop (at + i + 1) s))
-      unfolding stands
-      here = sym S.rest ∙ (λ k. stands (drop_here word i h k) (drop_here s (at + i) l k))
+-- ---- a comment, by the place of its line end among the bytes
+abbrev closed : ℕ → ℕ → Option ℕ → Judged ℕ
+closed at end (Some i) = good (at + i + 1)
+closed at end None = wrong 22 end
 
-      pub standing-not : (get_or s (at + i) 0 ≡ get_or word i 0 → ⊥) → Stands word s at false
-      standing-not n = record { is = sym (here ∙ ap (λ (t : Bool). t && stands (drop (i + 1) word) (drop (at + i + 1) s)) (ne_eqb _ _ n)) }
+comment-from : (l : List ℕ) (at i : ℕ) → comment_at l (at + i) ≡ closed at (at + i + length l) (position_from is_end i l)
+unfolding comment_at
+comment-from [] at i = ap (wrong 22) (omega arith)
+comment-from (b ∷ l) at i = by (is_end b) refl (comment-from l at (i + 1))
+  where
+    by : (t : Bool) → is_end b ≡ t
+        → comment_at l (at + (i + 1)) ≡ closed at (at + (i + 1) + length l) (position_from is_end (i + 1) l)
+        → comment_at (b ∷ l) (at + i) ≡ closed at (at + i + suc (length l)) (cond (is_end b) (Some i) (position_from is_end (i + 1) l))
+    by true e h =
+        comment-end b l (at + i) e
+        ∙ ap (λ (t : Bool). closed at (at + i + suc (length l)) (cond t (Some i) (position_from is_end (i + 1) l))) (sym e)
+    by false e h =
+        let k : at + i + 1 ≡ at + (i + 1) = omega arith in
+        let n : at + (i + 1) + length l ≡ at + i + suc (length l) = omega arith in
+        comment-more b l (at + i) e
+        ∙ ap (comment_at l) k
+        ∙ h
+        ∙ ap (λ (end : ℕ). closed at end (position_from is_end (i + 1) l)) n
+        ∙ ap (λ (t : Bool). closed at (at + i + suc (length l)) (cond t (Some i) (position_from is_end (i + 1) l))) (sym e)
 
-      pub standing-next : get_or s (at + i) 0 ≡ get_or word i 0 → Standing word s at (i + 1)
-      standing-next e =
-          let k : at + (i + 1) ≡ at + i + 1 = omega arith in
-          record {
-            inside = omega arith;
-            rest =
-                ap (λ (x : ℕ). stands (drop (i + 1) word) (drop x s)) k
-                ∙ sym (here ∙ ap (λ (t : Bool). t && stands (drop (i + 1) word) (drop (at + i + 1) s)) (eq-eqb _ _ e));
-          }
+module _ (s : List ℕ) {l : List ℕ} (at : ℕ) (from : l ≡ drop at s) {r : Option ℕ} (found : r ≡ position is_end l) where
+  comment-is : closed at (at + length l) r ≡ comment_at (drop at s) at
+  comment-is =
+      let k : at + 0 ≡ at = omega arith in
+      ap (closed at (at + length l)) (found ∙ position_from-zero is_end l)
+      ∙ ap (λ (end : ℕ). closed at (end + length l) (position_from is_end 0 l)) (sym k)
+      ∙ sym (comment-from l at 0)
+      ∙ (λ j. comment_at (from j) (k j))
 
-  pub standing-end : length word ≤ i → Stands word s at true
-  unfolding stands
-  standing-end l = record { is = sym (sym S.rest ∙ ap (λ (w : List ℕ). stands w (drop (at + i) s)) (drop_of_length-le word l)) }
+  pub comment-closed : {i : ℕ} → r ≡ Some i → Comment s at (Ok (at + i + 1))
+  comment-closed e = record { is = ap (closed at (at + length l)) (sym e) ∙ comment-is }
+
+  pub comment-unclosed : r ≡ None → {x : RefusedStack} → x ≡ record { number = 22; value = at + length l } → Comment s at (Err x)
+  comment-unclosed e q = record { is = refused q ∙ ap (closed at (at + length l)) (sym e) ∙ comment-is }
 
 -- ---- white space and comments
-pub record Mixing (s : List ℕ) (at i : ℕ) (comment : Bool) : Type 0 where
-  pub rest : mix comment (drop i s) i ≡ mix false (drop at s) at
+pub record Mixing (l : List ℕ) (at i : ℕ) (comment : Bool) : Type 0 where
+  pub rest : mix comment (drop i l) (at + i) ≡ mix false l at
 
-pub mixing-start : (s : List ℕ) (at : ℕ) → Mixing s at at false
-mixing-start s at = record { rest = refl }
+pub mixing-start : (l : List ℕ) (at : ℕ) → Mixing l at 0 false
+mixing-start l at = record { rest = ap (mix false l) (omega arith) }
 
-module _ {s : List ℕ} {at i : ℕ} {comment : Bool} (M : Mixing s at i comment) where
-  pub mixing-end : length s ≤ i → Mix s at i
-  unfolding mix
-  mixing-end l = record { is = ap (λ (x : List ℕ). mix comment x i) (sym (drop_of_length-le s l)) ∙ M.rest }
+module _ {l : List ℕ} {at i : ℕ} {comment : Bool} (M : Mixing l at i comment) where
+  module _ {s : List ℕ} (from : l ≡ drop at s) where
+    mixed : {r : ℕ} → r ≡ mix comment (drop i l) (at + i) → Mix s at r
+    mixed e = record { is = e ∙ M.rest ∙ ap (λ (x : List ℕ). mix false x at) from }
 
-  module _ (h : i < length s) where
-    at_byte : (t : Bool) → comment ≡ t → mix t (get_or s i 0 ∷ drop (i + 1) s) i ≡ mix false (drop at s) at
-    at_byte t e = sym (λ k. mix (e k) (drop_here s i h k) i) ∙ M.rest
+    pub mixing-end : length l ≤ i → i ≤ length l → Mix s at (at + length l)
+    unfolding mix
+    mixing-end h k = let e : at + length l ≡ at + i = omega arith in mixed (e ∙ ap (λ (x : List ℕ). mix comment x (at + i)) (sym (drop_of_length-le l h)))
 
-    pub mixing-in : comment ≡ true → {r : Bool} → r ≡ is_end (get_or s i 0) → Mixing s at (i + 1) (not r)
-    mixing-in e f = record { rest = ap (λ (x : Bool). mix (not x) (drop (i + 1) s) (i + 1)) f ∙ sym (mix-in (get_or s i 0) (drop (i + 1) s) i) ∙ at_byte true e }
+    pub mixing-stop : comment ≡ false → i < length l → (get_or l i 0 ≡ 35 → ⊥) → {r : Bool} → r ≡ is_white (get_or l i 0) → not r ≡ true → Mix s at (at + i)
+    mixing-stop e h n {r} f t =
+        mixed (sym (mix-stop (get_or l i 0) (drop (i + 1) l) (at + i) (sym f ∙ not-true r t) n) ∙ sym (λ k. mix (e k) (drop_here l i h k) (at + i)))
 
-    module _ (e : comment ≡ false) {r : Bool} (f : r ≡ is_white (get_or s i 0)) where
-      pub mixing-white : r ≡ true → Mixing s at (i + 1) comment
-      mixing-white t = record { rest = ap (λ (x : Bool). mix x (drop (i + 1) s) (i + 1)) e ∙ sym (mix-white (get_or s i 0) (drop (i + 1) s) i (sym f ∙ t)) ∙ at_byte false e }
+  module _ (h : i < length l) where
+    at_byte : (t : Bool) → comment ≡ t → mix t (get_or l i 0 ∷ drop (i + 1) l) (at + i) ≡ mix false l at
+    at_byte t e = sym (λ k. mix (e k) (drop_here l i h k) (at + i)) ∙ M.rest
 
-      pub mixing-hash : r ≡ false → get_or s i 0 ≡ 35 → Mixing s at (i + 1) true
-      mixing-hash t h' = record { rest = sym (mix-hash (get_or s i 0) (drop (i + 1) s) i (sym f ∙ t) h') ∙ at_byte false e }
+    further : (t : Bool) → mix t (drop (i + 1) l) (at + i + 1) ≡ mix false l at → Mixing l at (i + 1) t
+    further t e = record { rest = let k : at + (i + 1) ≡ at + i + 1 = omega arith in ap (mix t (drop (i + 1) l)) k ∙ e }
 
-      pub mixing-stop : r ≡ false → (get_or s i 0 ≡ 35 → ⊥) → Mix s at i
-      mixing-stop t n = record { is = sym (mix-stop (get_or s i 0) (drop (i + 1) s) i (sym f ∙ t) n) ∙ at_byte false e }
+    pub mixing-in : comment ≡ true → {r : Bool} → r ≡ is_end (get_or l i 0) → Mixing l at (i + 1) (not r)
+    mixing-in e {r} f =
+        further (not r)
+        (ap (λ (x : Bool). mix (not x) (drop (i + 1) l) (at + i + 1)) f ∙ sym (mix-in (get_or l i 0) (drop (i + 1) l) (at + i)) ∙ at_byte true e)
 
--- ---- a comment
-pub record Commenting (s : List ℕ) (at i : ℕ) : Type 0 where
-  pub rest : comment_at (drop i s) i ≡ comment_at (drop at s) at
+    module _ (e : comment ≡ false) where
+      pub mixing-white : {r : Bool} → r ≡ is_white (get_or l i 0) → not r ≡ false → Mixing l at (i + 1) comment
+      mixing-white {r} f t =
+          further comment
+          (ap (λ (x : Bool). mix x (drop (i + 1) l) (at + i + 1)) e
+          ∙ sym (mix-white (get_or l i 0) (drop (i + 1) l) (at + i) (sym f ∙ not-false r t)) ∙ at_byte false e)
 
-pub commenting-start : (s : List ℕ) (at : ℕ) → Commenting s at at
-commenting-start s at = record { rest = refl }
-
-module _ {s : List ℕ} {at i : ℕ} (C : Commenting s at i) where
-  pub commenting-unclosed : length s ≤ i → Comment s at (NotAt 22 i)
-  unfolding comment_at
-  commenting-unclosed l = record { is = ap (λ (x : List ℕ). comment_at x i) (sym (drop_of_length-le s l)) ∙ C.rest }
-
-  module _ (h : i < length s) {r : Bool} (f : r ≡ is_end (get_or s i 0)) where
-    here_on : comment_at (get_or s i 0 ∷ drop (i + 1) s) i ≡ comment_at (drop at s) at
-    here_on = ap (λ (x : List ℕ). comment_at x i) (sym (drop_here s i h)) ∙ C.rest
-
-    pub commenting-closed : r ≡ true → Comment s at (At (i + 1))
-    commenting-closed t = record { is = sym (comment-end (get_or s i 0) (drop (i + 1) s) i (sym f ∙ t)) ∙ here_on }
-
-    pub commenting-next : r ≡ false → Commenting s at (i + 1)
-    commenting-next t = record { rest = sym (comment-more (get_or s i 0) (drop (i + 1) s) i (sym f ∙ t)) ∙ here_on }
+      pub mixing-hash : get_or l i 0 ≡ 35 → Mixing l at (i + 1) true
+      unfolding is_white is_end
+      mixing-hash q = further true (sym (mix-hash (get_or l i 0) (drop (i + 1) l) (at + i) (ap is_white q) q) ∙ at_byte false e)
 
 -- ---- digits
-pub record Counting (s : List ℕ) (at i v : ℕ) : Type 0 where
+pub record Counting (l : List ℕ) (at i v : ℕ) : Type 0 where
   pub small : v ≤ 100000
-  pub rest : Alike (digits_at v (drop i s) i) (digits_at 0 (drop at s) at)
+  pub rest : Alike (digits_at v (drop i l) (at + i)) (digits_at 0 l at)
 
-pub counting-start : (s : List ℕ) (at : ℕ) → Counting s at at 0
-counting-start s at = record { small = omega arith; rest = alike_is refl }
+pub counting-start : (l : List ℕ) (at : ℕ) → Counting l at 0 0
+counting-start l at = record { small = omega arith; rest = alike_is (ap (digits_at 0 l) (omega arith)) }
 
-module _ {s : List ℕ} {at i v : ℕ} (C : Counting s at i v) where
-  counted : digits_at v (drop i s) i ≡ (v, i) → Digits s at v i
-  counted e =
-      let a = alike-trans (alike_is (sym e)) C.rest in
-      let n = C.small in
-      record { value-is = omega (arith, a.value); next-is = a.place }
+module _ {l : List ℕ} {at i v : ℕ} (C : Counting l at i v) where
+  module _ {s : List ℕ} (from : l ≡ drop at s) where
+    counted : {p : ℕ} → p ≡ at + i → digits_at v (drop i l) (at + i) ≡ (v, at + i) → Digits s at v p
+    counted q e =
+        let a = alike-trans (alike_is (sym e)) (alike-trans C.rest (alike_is (ap (λ (x : List ℕ). digits_at 0 x at) from))) in
+        let n = C.small in
+        record { value-is = omega (arith, a.value); next-is = q ∙ a.place }
 
-  pub counting-end : length s ≤ i → Digits s at v i
-  unfolding digits_at
-  counting-end l = counted (ap (λ (x : List ℕ). digits_at v x i) (drop_of_length-le s l))
+    pub counting-end : length l ≤ i → i ≤ length l → Digits s at v (at + length l)
+    unfolding digits_at
+    counting-end h k = counted (omega arith) (ap (λ (x : List ℕ). digits_at v x (at + i)) (drop_of_length-le l h))
 
-  module _ (h : i < length s) {r : Bool} (f : r ≡ is_digit (get_or s i 0)) where
-    pub counting-stop : not r ≡ true → Digits s at v i
-    counting-stop t = counted (ap (λ (x : List ℕ). digits_at v x i) (drop_here s i h) ∙ digit-stop (get_or s i 0) (drop (i + 1) s) i v (sym f ∙ not-true r t))
+    pub counting-stop : i < length l → {r : Bool} → r ≡ is_digit (get_or l i 0) → not r ≡ true → Digits s at v (at + i)
+    counting-stop h {r} f t =
+        counted refl
+        (ap (λ (x : List ℕ). digits_at v x (at + i)) (drop_here l i h) ∙ digit-stop (get_or l i 0) (drop (i + 1) l) (at + i) v (sym f ∙ not-true r t))
 
-    pub counting-digit : not r ≡ false → is_digit (get_or s i 0) ≡ true
-    counting-digit t = sym f ∙ not-false r t
+  module _ {r : Bool} (f : r ≡ is_digit (get_or l i 0)) (t : r ≡ true) where
+    digit : is_digit (get_or l i 0) ≡ true
+    digit = sym f ∙ t
 
-    pub counting-next : not r ≡ false → {w : ℕ} → w ≡ min 100000 (v * 10 + (get_or s i 0 - 48)) → Counting s at (i + 1) w
-    counting-next t {w} e = record {
-      small = omega arith;
-      rest =
-          alike-trans
-          (alike (drop (i + 1) s) (i + 1) w (v * 10 + (get_or s i 0 - 48)) (omega arith))
-          (alike-trans
-          (alike_is (sym (ap (λ (x : List ℕ). digits_at v x i) (drop_here s i h) ∙ digit-more (get_or s i 0) (drop (i + 1) s) i v (counting-digit t))))
-          C.rest);
-    }
+    pub counting-digit : (v ≤ 100000) × (is_digit (get_or l i 0) ≡ true)
+    counting-digit = (C.small, digit)
+
+    pub counting-next : i < length l → {w : ℕ} → w ≡ min 100000 (v * 10 + (get_or l i 0 - 48)) → Counting l at (i + 1) w
+    counting-next h {w} e =
+        let b = get_or l i 0 in
+        let k : at + (i + 1) ≡ at + i + 1 = omega arith in
+        record {
+          small = omega arith;
+          rest =
+              alike-trans
+              (alike_is (ap (digits_at w (drop (i + 1) l)) k))
+              (alike-trans
+              (alike (drop (i + 1) l) (at + i + 1) w (v * 10 + (b - 48)) (omega arith))
+              (alike-trans
+              (alike_is (sym (ap (λ (x : List ℕ). digits_at v x (at + i)) (drop_here l i h) ∙ digit-more b (drop (i + 1) l) (at + i) v digit)))
+              C.rest));
+        }

@@ -1,132 +1,98 @@
 // The header of an image, read front to back.
 #![tactic(auto)]
 
-ghost use Rattle.std.specs.Prelude.{◌≡◌, true, ◌+◌, ◌-◌, ◌*◌, ◌≤◌, min, length};
+ghost use Rattle.std.specs.Prelude.{◌≡◌, true, ◌+◌, ◌-◌, ◌*◌, ◌≤◌, min, drop};
 ghost use Rattle.rules.specs.Decimals.{is_digit};
 ghost use Rattle.rules.specs.P4.{is_end, is_white};
-ghost use Rattle.p4_header.specs.Reads.{Stands, Comment, White, Mix, Digits, FieldIs, SizesAre, HeaderIs};
+ghost use Rattle.rules.specs.Refusals.{number_of};
+ghost use Rattle.p4_header.specs.Reads.{Comment, White, Mix, Digits, FieldIs, HeaderIs};
 
-// A place, or a refusal with its number and the number returned; and so below.
+use rules::{Refusal, RefusedStack};
+
+// A number's value and the place past it.
 #[derive(Clone, Copy)]
-pub enum PlaceRead {
-    At(usize),
-    NotAt(u32, usize),
+struct Field {
+    value: usize,
+    next: usize,
 }
 
-// A number's value and the place past the white space behind it.
+// `next` is the place of the rows.
 #[derive(Clone, Copy)]
-enum FieldRead {
-    Value(usize, usize),
-    NoValue(u32, usize),
+pub struct Header {
+    pub width: usize,
+    pub height: usize,
+    pub next: usize,
 }
 
-// Width, height and the place of the rows.
-#[derive(Clone, Copy)]
-pub enum HeaderRead {
-    Sizes(usize, usize, usize),
-    NoSizes(u32, usize),
-}
-
+#[tactic(auto, unfolding(rules::specs::P4::is_end))]
 fn is_end(b: u8) -> bool
     ensures { result ≡ is_end b }
 {
-    if b == 13 {
-        return true;
-    }
-    b == 10
+    matches!(b, b'\r' | b'\n')
 }
 
+#[tactic(auto, unfolding(rules::specs::P4::is_white, rules::specs::P4::is_end))]
 fn is_white(b: u8) -> bool
     ensures { result ≡ is_white b }
 {
-    if b == 32 {
-        return true;
-    }
-    if b == 9 {
-        return true;
-    }
-    is_end(b)
+    is_end(b) || matches!(b, b' ' | b'\t')
 }
 
-// Whether the word stands at a place.
-fn stands(word: &[u8], src: &[u8], at: usize) -> bool
-    requires { at ≤ length src.now }
-    ensures { Stands word.now src.now at result }
+// A refusal with its number.
+pub fn refuse(why: Refusal, value: usize) -> RefusedStack
+    ensures { result ≡ record { number = number_of why; value = value } }
 {
-    let mut i = 0;
-    while i < word.len() {
-        let o = at + i;
-        if src.len() <= o {
-            return false;
-        }
-        if src[o] != word[i] {
-            return false;
-        }
-        i = i + 1;
+    RefusedStack {
+        number: why as u32,
+        value,
     }
-    true
+}
+
+// The bytes from a place on, none behind the end.
+fn rest(src: &[u8], at: usize) -> &[u8]
+    ensures { result.now ≡ drop at src.now }
+{
+    &src[at.min(src.len())..]
 }
 
 // A comment, through its line end, and the place past it.
-fn read_comment(src: &[u8], at: usize) -> PlaceRead
+fn read_comment(src: &[u8], at: usize) -> Result<usize, RefusedStack>
     ensures { Comment src.now at result }
 {
-    let mut i = at;
-    while i < src.len() {
-        if is_end(src[i]) {
-            return PlaceRead::At(i + 1);
-        }
-        i = i + 1;
+    let bytes = rest(src, at);
+    match bytes.iter().position(|b| is_end(*b)) {
+        Some(length) => Ok(at + length + 1),
+        None => Err(refuse(Refusal::Header, at + bytes.len())),
     }
-    PlaceRead::NotAt(22, i)
 }
 
 // The white space required, and the place past it: one white space byte, or a comment that begins at once.
-fn read_white(src: &[u8], at: usize) -> PlaceRead
+fn read_white(src: &[u8], at: usize) -> Result<usize, RefusedStack>
     ensures { White src.now at result }
 {
-    if at < src.len() {
-        let b = src[at];
-        if is_white(b) {
-            return PlaceRead::At(at + 1);
-        }
-        if b == 35 {
-            return read_comment(src, at);
-        }
+    match src.get(at) {
+        Some(b) if is_white(*b) => Ok(at + 1),
+        Some(b'#') => read_comment(src, at),
+        _ => Err(refuse(Refusal::Header, at)),
     }
-    PlaceRead::NotAt(22, at)
 }
 
 // The place past any mix of white space and comments.
 fn skip_mix(src: &[u8], at: usize) -> usize
     ensures { Mix src.now at result }
 {
-    let mut i = at;
+    let bytes = rest(src, at);
     let mut comment = false;
-    while i < src.len() {
-        let b = src[i];
+    for (i, b) in bytes.iter().enumerate() {
         if comment {
-            comment = !is_end(b);
-            i = i + 1;
-        } else {
-            if is_white(b) {
-                i = i + 1;
-            } else {
-                if b != 35 {
-                    return i;
-                }
-                comment = true;
-                i = i + 1;
-            }
+            comment = !is_end(*b);
+        } else if *b == b'#' {
+            comment = true;
+        } else if !is_white(*b) {
+            return at + i;
         }
     }
-    i
-}
-
-#[derive(Clone, Copy)]
-struct Number {
-    value: usize,
-    next: usize,
+    at + bytes.len()
 }
 
 // One digit more; 100000 stands for every value above it.
@@ -134,83 +100,61 @@ fn add_digit(v: usize, b: u8) -> usize
     requires { (v ≤ 100000) × (is_digit b ≡ true) }
     ensures { result ≡ min 100000 (v * 10 + (b - 48)) }
 {
-    let w = v * 10 + ((b - 48) as usize);
-    if 100000 < w { 100000 } else { w }
+    (v * 10 + usize::from(b - b'0')).min(100000)
 }
 
 // The digits at a place and the place past them.
-fn read_digits(src: &[u8], at: usize) -> Number
+fn read_digits(src: &[u8], at: usize) -> Field
     ensures { Digits src.now at result.value result.next }
 {
-    let mut i = at;
-    let mut v: usize = 0;
-    while i < src.len() {
-        let b = src[i];
-        if !text::is_digit(b) {
-            return Number { value: v, next: i };
+    let bytes = rest(src, at);
+    let mut value = 0;
+    for (i, b) in bytes.iter().enumerate() {
+        if !text::is_digit(*b) {
+            return Field {
+                value,
+                next: at + i,
+            };
         }
-        v = add_digit(v, b);
-        i = i + 1;
+        value = add_digit(value, *b);
     }
-    Number { value: v, next: i }
+    Field {
+        value,
+        next: at + bytes.len(),
+    }
 }
 
-// The rest of a gap, a number from 1 to `most` and the white space required behind it.
+// The rest of a gap, a number from 1 to 256 and the white space required behind it.
 // The number is judged once that was seen.
-fn read_field(src: &[u8], at: usize, most: usize, number: u32) -> FieldRead
-    requires { most ≤ 65535 }
-    ensures { FieldIs most number src.now at result }
+fn read_field(src: &[u8], at: usize) -> Result<Field, RefusedStack>
+    ensures { FieldIs src.now at result }
 {
     let first = skip_mix(src, at);
-    let n = read_digits(src, first);
-    let v = n.value;
-    let end = n.next;
-    if end <= first {
-        return FieldRead::NoValue(22, first);
+    let digits = read_digits(src, first);
+    if digits.next <= first {
+        return Err(refuse(Refusal::Header, first));
     }
-    let e = read_white(src, end);
-    match e {
-        PlaceRead::NotAt(no, p) => FieldRead::NoValue(no, p),
-        PlaceRead::At(next) => {
-            let refused = FieldRead::NoValue(number, first);
-            if v < 1 {
-                return refused;
-            }
-            if most < v {
-                return refused;
-            }
-            FieldRead::Value(v, next)
-        }
+    let next = read_white(src, digits.next)?;
+    let value = digits.value;
+    if value < 1 || 256 < value {
+        return Err(refuse(Refusal::Sides, first));
     }
-}
-
-fn read_sizes(src: &[u8], at: usize) -> HeaderRead
-    ensures { SizesAre src.now at result }
-{
-    let w = read_field(src, at, 256, 23);
-    match w {
-        FieldRead::NoValue(n, p) => HeaderRead::NoSizes(n, p),
-        FieldRead::Value(width, i) => {
-            let h = read_field(src, i, 256, 23);
-            match h {
-                FieldRead::NoValue(n, p) => HeaderRead::NoSizes(n, p),
-                FieldRead::Value(height, j) => HeaderRead::Sizes(width, height, j),
-            }
-        }
-    }
+    Ok(Field { value, next })
 }
 
 // "P4", a gap, width, a gap, height, one white space byte.
-pub fn read_header(src: &[u8], at: usize) -> HeaderRead
-    requires { at ≤ length src.now }
+pub fn read_header(src: &[u8], at: usize) -> Result<Header, RefusedStack>
     ensures { HeaderIs src.now at result }
 {
-    if !stands(b"P4", src, at) {
-        return HeaderRead::NoSizes(21, at);
+    if !rest(src, at).starts_with(b"P4") {
+        return Err(refuse(Refusal::Magic, at));
     }
-    let e = read_white(src, at + 2);
-    match e {
-        PlaceRead::NotAt(n, p) => HeaderRead::NoSizes(n, p),
-        PlaceRead::At(i) => read_sizes(src, i),
-    }
+    let gap = read_white(src, at + 2)?;
+    let width = read_field(src, gap)?;
+    let height = read_field(src, width.next)?;
+    Ok(Header {
+        width: width.value,
+        height: height.value,
+        next: height.next,
+    })
 }

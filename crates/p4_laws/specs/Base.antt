@@ -1,7 +1,7 @@
 -- The reader as document 01 alone has it, before 2026-02: the white space required is one white space byte. It is the reader of
 -- `rules/specs/P4` with another rule for that (`reading-now`), so its text stands here over the rule. `Stays` says what stayed.
 use Rattle.std.specs.Prelude.{◌≡◌, true, false, ◌&&◌, List, [], ◌++◌, ℕ, zero, suc, ◌+◌, leb, ltb, eqb, length, get_or, drop}
-use Rattle.rules.specs.declared.Reading.{Reading}
+use Rattle.rules.specs.Answers.{Reading}
 use Rattle.rules.specs.Solids.{slice_bytes, stack_bytes}
 use Rattle.rules.specs.P4.{Judged, good, ◌>>=◌, ◌>>◌, judge, stands, magic, is_white, mix, digits_at, Field, Header, rows, sizes, Contents, read_answer, stored}
 

@@ -4,8 +4,7 @@ use Rattle.std.specs.Prelude.{◌≡◌, Bool, true, false, List, [], ◌++◌, 
 use Rattle.std.proofs.Math.Path.{refl, sym, subst}
 use Rattle.std.proofs.Common.{ap, ◌∙◌, arith}
 use Prim.Native.Nat.{ℕ, zero, suc, ◌+◌}
-use Rattle.rules.specs.declared.Reading.{Reading}
-use Rattle.rules.specs.declared.Reading.TheVariants.{Unread}
+use Rattle.rules.specs.Answers.{Reading, refused_stack}
 use Rattle.rules.specs.Solids.{slice_bytes, stack_bytes}
 use Rattle.rules.specs.P4.{Judged, good, wrong, ◌>>=◌, judge, is_end, is_white, white, field_at, header_at, image_at, images_at, rows, sizes, Contents, contents, reading, read_answer, stored, ReadPromise}
 use Rattle.p4_laws.specs.Judging.{off, pass, fail}
@@ -106,7 +105,7 @@ refusal-stays s lent {number} {place} e n = sym (unless-touched s lent was) ∙ 
         n m (ap (λ (j : ℕ). get_or s j 0) q ∙ h)
 
 -- and what kept the base's promise, buffer and all, keeps today's
-pub promise-stays : {input before after : List ℕ} {r : Reading} → BasePromise input before after r → ((place : ℕ) → r ≡ Unread 22 place → get_or input place 0 ≡ 35 → ⊥) → ReadPromise input before after r
+pub promise-stays : {input before after : List ℕ} {r : Reading} → BasePromise input before after r → ((place : ℕ) → r ≡ refused_stack 22 place → get_or input place 0 ≡ 35 → ⊥) → ReadPromise input before after r
 unfolding read_answer
 promise-stays {input} {before} B n =
     let e = unless-touched input (length before) (λ p f. n p (B.answers ∙ ap read_answer f)) in

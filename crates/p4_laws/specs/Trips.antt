@@ -6,10 +6,8 @@ use Rattle.std.proofs.Math.ListN.{length}
 use Rattle.rules.specs.declared.Vector.{Vector}
 use Rattle.rules.specs.declared.Stack.{Stack}
 use Rattle.rules.specs.declared.Solid.TheVariants.{Stack as IsStack}
-use Rattle.rules.specs.declared.Reading.{Reading}
-use Rattle.rules.specs.declared.Reading.TheVariants.{Read}
-use Rattle.rules.specs.declared.Writing.{Writing}
-use Rattle.rules.specs.declared.Writing.TheVariants.{Written}
+use Rattle.rules.specs.Answers.{Reading, Writing}
+use Rattle.std.specs.Prelude.{Ok as Read, Ok as Written}
 use Rattle.rules.specs.Solids.{stack_bytes, permitted_stack}
 use Rattle.rules.specs.Pick.{pick_of}
 use Rattle.rules.specs.P4.{Judged, good, wrong, Contents, contents, reading, read_answer, stored, sizes, plain, writing, write_answer, ReadPromise, WritePromise}

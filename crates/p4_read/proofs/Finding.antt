@@ -1,51 +1,47 @@
 -- Each way out of the search for an image's rows: the definition goes the same way.
-use mathlib.Core.Path.{◌≡◌, sym, ap, ◌∙◌}
-use mathlib.Core.Bool.{◌&&◌}
-use mathlib.Core.List.{List}
-use Prim.Native.Nat.{ℕ, ◌+◌, ◌≤◌, ◌<◌}
-use lib.ListN.{length}
-use lib.Dec.{eqb, leb}
-use borrow.Author.Tests.{eq-eqb, ne_eqb, le-leb, lt-leb}
+use Rattle.std.specs.Prelude.{◌≡◌, ◌&&◌, List, ℕ, ◌+◌, ◌≤◌, ◌<◌, length, eqb, leb, Ok, Err, ◌⊎◌}
+use Rattle.std.proofs.Common.{inl, inr, sym, ap, ◌∙◌, eq-eqb, ne_eqb, le-leb}
+use Rattle.std.proofs.lemmas.Bool.{lt-leb}
 use Rattle.integers.specs.Tests.{both, not_first, not-second}
+use Rattle.rules.specs.declared.RefusedStack.{RefusedStack}
 use Rattle.rules.specs.Solids.{slice_bytes}
-use Rattle.rules.specs.P4.{good, ◌>>=◌, judge, image_at}
+use Rattle.rules.specs.P4.{Judged, good, wrong, ◌>>=◌, judge, image_at}
 use Rattle.p4_laws.specs.Judging.{on, off, pass, fail}
 use Rattle.p4_laws.specs.Headers.{header-in}
 use Rattle.stack.specs.Bytes.{SliceBytes}
-use Rattle.p4_header.specs.declared.PlaceRead.TheVariants.{At, NotAt}
-use Rattle.p4_header.specs.declared.HeaderRead.{HeaderRead}
-use Rattle.p4_header.specs.declared.HeaderRead.TheVariants.{Sizes, NoSizes}
-use Rattle.p4_header.specs.Reads.{judged_header, HeaderIs}
+use Rattle.p4_header.specs.declared.Header.{Header}
+use Rattle.p4_header.specs.Reads.{HeaderIs}
 use Rattle.p4_read.specs.Images.{ImageIs}
 
-module _ (w h : ℕ) {s : List ℕ} {at : ℕ} {r : HeaderRead} (H : HeaderIs s at r) where
-  pub rows_none : {n p : ℕ} → r ≡ NoSizes n p → ImageIs w h s at (NotAt n p)
+pub refused : {A : Type 0} {x : RefusedStack} {n p : ℕ} → x ≡ record { number = n; value = p } → ◌≡◌ {A = Judged A} (wrong x.number x.value) (wrong n p)
+refused q = ap (λ (x : RefusedStack). wrong x.number x.value) q
+
+pub rows_inside : {s : List ℕ} {at : ℕ} {r : Header} → HeaderIs s at (Ok r) → r.next ≤ length s
+rows_inside {s} {at} H = (header-in s at (sym H.is)).inside
+
+module _ (w h : ℕ) {s : List ℕ} {at : ℕ} where
+  pub rows_none : {x : RefusedStack} → HeaderIs s at (Err x) → ImageIs w h s at (Err x)
   unfolding image_at
-  rows_none e = record { is = sym (off _ (sym H.is ∙ ap judged_header e)) }
+  rows_none H = record { is = sym (off _ (sym H.is)) }
 
-  module _ {a b i : ℕ} (e : r ≡ Sizes a b i) where
-    pub rows_inside : i ≤ length s
-    rows_inside = (header-in s at (sym H.is ∙ ap judged_header e)).inside
-
-    sized : image_at w h s at ≡ (judge (eqb a w && eqb b h) 24 at >>= λ _. judge (leb (i + slice_bytes w h) (length s)) 25 (length s) >>= λ _. good i)
+  module _ {r : Header} (H : HeaderIs s at (Ok r)) where
+    sized : image_at w h s at ≡ (judge (eqb r.width w && eqb r.height h) 24 at >>= λ _. judge (leb (r.next + slice_bytes w h) (length s)) 25 (length s) >>= λ _. good r.next)
     unfolding image_at
-    sized = on _ (sym H.is ∙ ap judged_header e)
+    sized = on _ (sym H.is)
 
-    pub rows-wide : (a ≡ w → ⊥) → ImageIs w h s at (NotAt 24 at)
-    rows-wide n = record { is = sym (sized ∙ fail 24 at _ (not_first _ (ne_eqb a w n))) }
+    pub rows-other : (r.width ≡ w → ⊥) ⊎ ((r.width ≡ w) × (r.height ≡ h → ⊥)) → {x : RefusedStack} → x ≡ record { number = 24; value = at } → ImageIs w h s at (Err x)
+    rows-other (inl n) q = record { is = refused q ∙ sym (sized ∙ fail 24 at _ (not_first _ (ne_eqb r.width w n))) }
+    rows-other (inr (_, n)) q = record { is = refused q ∙ sym (sized ∙ fail 24 at _ (not-second (eqb r.width w) (ne_eqb r.height h n))) }
 
-    pub rows-high : (b ≡ h → ⊥) → ImageIs w h s at (NotAt 24 at)
-    rows-high n = record { is = sym (sized ∙ fail 24 at _ (not-second (eqb a w) (ne_eqb b h n))) }
-
-    module _ (p : a ≡ w) (q : b ≡ h) {z : ℕ} (Z : SliceBytes w h z) where
-      alike : image_at w h s at ≡ (judge (leb (i + z) (length s)) 25 (length s) >>= λ _. good i)
+    module _ (p : r.width ≡ w) (q : r.height ≡ h) {z : ℕ} (Z : SliceBytes w h z) where
+      alike : image_at w h s at ≡ (judge (leb (r.next + z) (length s)) 25 (length s) >>= λ _. good r.next)
       alike =
           sized
-          ∙ pass 24 at _ (both (eq-eqb a w p) (eq-eqb b h q))
-          ∙ ap (λ (x : ℕ). judge (leb (i + x) (length s)) 25 (length s) >>= λ _. good i) (sym Z.is)
+          ∙ pass 24 at _ (both (eq-eqb r.width w p) (eq-eqb r.height h q))
+          ∙ ap (λ (x : ℕ). judge (leb (r.next + x) (length s)) 25 (length s) >>= λ _. good r.next) (sym Z.is)
 
-      pub rows_short : length s < i + z → ImageIs w h s at (NotAt 25 (length s))
-      rows_short l = record { is = sym (alike ∙ fail 25 (length s) _ (lt-leb (i + z) (length s) l)) }
+      pub rows_short : length s < r.next + z → {x : RefusedStack} → x ≡ record { number = 25; value = length s } → ImageIs w h s at (Err x)
+      rows_short l u = record { is = refused u ∙ sym (alike ∙ fail 25 (length s) _ (lt-leb (r.next + z) (length s) l)) }
 
-      pub rows-there : i + z ≤ length s → ImageIs w h s at (At i)
-      rows-there l = record { is = sym (alike ∙ pass 25 (length s) _ (le-leb (i + z) (length s) l)) }
+      pub rows-there : r.next + z ≤ length s → ImageIs w h s at (Ok r.next)
+      rows-there l = record { is = sym (alike ∙ pass 25 (length s) _ (le-leb (r.next + z) (length s) l)) }

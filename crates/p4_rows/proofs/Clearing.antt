@@ -2,21 +2,20 @@
 use mathlib.Core.Path.{◌≡◌, refl, sym, ap, ◌∙◌}
 use mathlib.Core.List.{List, [], ◌∷◌, ◌++◌}
 use Prim.Native.Nat.{ℕ, zero, suc, ◌+◌, ◌-◌, ◌*◌, ◌/◌, ◌%◌, ◌^◌, ◌≤◌, ◌<◌}
-use native.Mathlib.Nat.{suc-mul, zero-mul, div-mul-le_self, mod-eq_of_lt}
+use native.Mathlib.Nat.{sub-zero, suc-mul, zero-mul, div-mul-le_self, mod-eq_of_lt}
 use native.Mathlib.Omega.{arith}
-use lib.ListN.{length, get_or, take, drop, set, length-set, length-drop}
+use lib.ListN.{length, get_or, take, drop, set, length-drop}
 use lib.Seq.{sets, length-sets, set-get_or, set-set, get_or-set_same, take-add, length-take-le, take-suc}
 use Rattle.rules.specs.Solids.{row_bytes, slice_bytes}
 use Rattle.rules.specs.P4.{padding, cut, row, rows}
 use Rattle.stack.specs.Bytes.{SliceSides, RowBytes, SliceBytes}
-use Rattle.text.specs.Puts.{sets-append}
+use Rattle.text.specs.declared.Writer.{Writer}
+use Rattle.text.specs.Put.{Put}
+use Rattle.text.specs.Puts.{sets-append, put-length}
 use Rattle.p4_laws.specs.Stores.{set-sets}
 use Rattle.p4_laws.specs.Rows.{row-some, length-row}
-use Rattle.p4_rows.specs.Copies.{Padding, CopyRoom, RowRoom, cleared}
-
-pub padding-bits : (w : ℕ) → Padding w ((8 - w % 8) % 8)
-unfolding padding row_bytes
-padding-bits w = record { is = omega arith; small = omega arith }
+use Rattle.p4_laws.specs.Plain.{slice_rows}
+use Rattle.p4_rows.specs.Copies.{Padding, CopyRoom, cleared}
 
 pub padding-none : (w : ℕ) → w % 8 ≡ 0 → padding w ≡ 0
 unfolding padding row_bytes
@@ -27,41 +26,40 @@ shifts b k h = let d = div-mul-le_self b (2 ^ k) in mod-eq_of_lt (omega arith)
 
 -- ---- the loop
 
-pub record Clearing (first : List ℕ) (at w count : ℕ) (out : List ℕ) (o left : ℕ) : Type 0 where
-  pub same : length out ≡ length first
-  pub room : o + left * row_bytes w ≤ length first
-  pub rest : cleared left w out o ≡ cleared count w first at
+pub record Clearing (first : List ℕ) (at w count : ℕ) (out : List ℕ) (o i : ℕ) : Type 0 where
+  pub room : o + (count - i) * row_bytes w ≤ length first
+  pub rest : cleared (count - i) w out o ≡ cleared count w first at
 
-pub clearing-start : {out : List ℕ} {at w count : ℕ} → RowRoom out at w count → Clearing out at w count out at count
-clearing-start R = record { same = refl; room = R.target; rest = refl }
+pub clearing-start : {out : List ℕ} {at w count : ℕ} → at + slice_bytes w count ≤ length out → Clearing out at w count out at 0
+unfolding slice_bytes
+clearing-start {out} {at} {w} {count} R = record { room = rw sub-zero R; rest = ap (λ (x : ℕ). cleared x w out at) (sub-zero count) }
 
-module _ {first out : List ℕ} {at w count o left : ℕ} (C : Clearing first at w count out o left) where
-  module _ {b : ℕ} (h : 0 < left) (B : RowBytes w b) where
-    counted : left ≡ suc (left - 1)
+module _ {first out : List ℕ} {at w count o i : ℕ} (C : Clearing first at w count out o i) where
+  module _ {b : ℕ} (h : i < count) (B : RowBytes w b) where
+    counted : count - i ≡ suc (count - (i + 1))
     counted = omega arith
 
-    less : left * row_bytes w ≡ row_bytes w + (left - 1) * row_bytes w
-    less = ap (λ (x : ℕ). x * row_bytes w) counted ∙ (let n = suc-mul (left - 1) (row_bytes w) in omega arith)
+    less : (count - i) * row_bytes w ≡ row_bytes w + (count - (i + 1)) * row_bytes w
+    less = ap (λ (x : ℕ). x * row_bytes w) counted ∙ (let n = suc-mul (count - (i + 1)) (row_bytes w) in omega arith)
 
-    pub clearing-room : o + b ≤ length out
-    clearing-room = let s = C.same in let r = C.room in let e = B.is in let m = less in omega arith
+    pub clearing-room : o + b ≤ length first
+    clearing-room = let r = C.room in let e = B.is in let m = less in omega arith
 
     pub clearing-next : {p v : ℕ} → Padding w p → v ≡ get_or out (o + (b - 1)) 0 / 2 ^ p * 2 ^ p
-        → Clearing first at w count (set out (o + (b - 1)) v) (o + b) (left - 1)
+        → Clearing first at w count (set out (o + (b - 1)) v) (o + b) (i + 1)
     unfolding cleared cut
     clearing-next {p} {v} P g = record {
-      same = simp length-set C.same;
       room = let r = C.room in let e = B.is in let m = less in omega arith;
       rest =
-          ap (λ (x : ℕ). cleared (left - 1) w (set out (o + (b - 1)) x) (o + b)) (g ∙ ap (λ (x : ℕ). get_or out (o + (b - 1)) 0 / 2 ^ x * 2 ^ x) P.is)
-          ∙ ap (λ (x : ℕ). cleared (left - 1) w (set out (o + (x - 1)) (cut w (get_or out (o + (x - 1)) 0))) (o + x)) B.is
+          ap (λ (x : ℕ). cleared (count - (i + 1)) w (set out (o + (b - 1)) x) (o + b)) (g ∙ ap (λ (x : ℕ). get_or out (o + (b - 1)) 0 / 2 ^ x * 2 ^ x) P.is)
+          ∙ ap (λ (x : ℕ). cleared (count - (i + 1)) w (set out (o + (x - 1)) (cut w (get_or out (o + (x - 1)) 0))) (o + x)) B.is
           ∙ ap (λ (x : ℕ). cleared x w out o) (sym counted)
           ∙ C.rest;
     }
 
-  pub clearing-end : left ≤ 0 → out ≡ cleared count w first at
+  pub clearing-end : count ≤ i → out ≡ cleared count w first at
   unfolding cleared
-  clearing-end h = let k : 0 ≡ left = omega arith in ap (λ (x : ℕ). cleared x w out o) k ∙ C.rest
+  clearing-end h = let k : 0 ≡ count - i = omega arith in ap (λ (x : ℕ). cleared x w out o) k ∙ C.rest
 
 -- ---- a plain copy, cleared
 
@@ -140,22 +138,22 @@ module _ (w : ℕ) (some : 1 ≤ w) where
       ∙ ap (λ (k : ℕ). sets (sets out at (row w bs)) (at + k) (rows r w (drop n bs))) (sym (length-row w some bs (omega arith)))
       ∙ sym (sets-append out at (row w bs) (rows r w (drop n bs)))
 
--- ---- both ways out of the copy of an image's rows
-module _ {src out mid : List ℕ} {from to w h size : ℕ} (S : SliceSides w h) (R : CopyRoom src from out to (slice_bytes w h)) (Z : SliceBytes w h size)
-    (M : mid ≡ sets out to (take size (drop from src))) where
-  copied : cleared h w mid to ≡ sets out to (rows h w (drop from src))
+-- ---- both ways out of the copy of a slice's rows
+module _ {src : List ℕ} {u v : Writer} {w h size : ℕ} (S : SliceSides w h) (R : CopyRoom src u (slice_bytes w h)) (Z : SliceBytes w h size) (P : Put u (take size src) v) where
+  copied : cleared h w v.out.now u.at ≡ sets u.out.now u.at (rows h w src)
   unfolding slice_bytes
   copied =
-      let s = R.source in
-      ap (λ (l : List ℕ). cleared h w l to) (M ∙ ap (λ (k : ℕ). sets out to (take k (drop from src))) Z.is)
-      ∙ cleared-rows w S.wide.some h out (drop from src) to (simp length-drop (omega arith)) R.target
+      ap (λ (l : List ℕ). cleared h w l u.at) (P.is ∙ ap (λ (k : ℕ). sets u.out.now u.at (take k src)) Z.is)
+      ∙ cleared-rows w S.wide.some h u.out.now src u.at R.source R.target
 
-  pub rows_whole : w % 8 ≡ 0 → mid ≡ sets out to (rows h w (drop from src))
-  rows_whole e = sym (cleared-none h w mid to (padding-none w e)) ∙ copied
+  behind : v.at ≡ u.at + length (rows h w src)
+  behind = let e = P.past in let z = Z.is in let s = R.source in let l = slice_rows w h S.wide.some src R.source in omega (arith, length-take-le size src (omega arith))
 
-  pub rows-cleared : {after : List ℕ} → after ≡ cleared h w mid to → after ≡ sets out to (rows h w (drop from src))
-  rows-cleared e = e ∙ copied
+  pub rows_whole : w % 8 ≡ 0 → Put u (rows h w src) v
+  rows_whole e = record { is = sym (cleared-none h w v.out.now u.at (padding-none w e)) ∙ copied; past = behind; lent = P.lent }
 
-  pub clear_room : length mid ≡ length out → RowRoom mid to w h
-  unfolding slice_bytes
-  clear_room l = record { wide = S.wide; target = let s = R.target in omega arith }
+  pub rows-cleared : {x : Writer} → x.out.now ≡ cleared h w v.out.now u.at → x.at ≡ v.at → x.out.ghost_name ≡ v.out.ghost_name → Put u (rows h w src) x
+  rows-cleared e a n = record { is = e ∙ copied; past = a ∙ behind; lent = n ∙ P.lent }
+
+  pub clear_room : u.at + slice_bytes w h ≤ length v.out.now
+  clear_room = let t = R.target in omega (arith, put-length P)

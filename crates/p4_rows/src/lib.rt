@@ -1,14 +1,17 @@
 // A copy of the rows of one image, with padding bits zero.
 #![tactic(auto)]
 
-ghost use Rattle.std.specs.Prelude.{◌≡◌, ◌/◌, ◌*◌, ◌^◌, ◌<◌, take, drop};
-ghost use Rattle.std.proofs.lemmas.List.Edits.{sets};
+ghost use Rattle.std.specs.Prelude.{◌≡◌, ◌+◌, ◌/◌, ◌*◌, ◌^◌, ◌<◌, ◌≤◌, length};
 ghost use Rattle.rules.specs.Solids.{slice_bytes};
 ghost use Rattle.rules.specs.P4.{rows};
-ghost use Rattle.stack.specs.Bytes.{SliceSides};
-ghost use Rattle.p4_rows.specs.Copies.{Padding, CopyRoom, RowRoom, cleared};
+ghost use Rattle.text.specs.Put.{Put};
+ghost use Rattle.p4_rows.specs.Copies.{Padding, CopyRoom, cleared};
+
+use stack::SliceSize;
+use text::Writer;
 
 // The bits that pad a row.
+#[tactic(auto, unfolding(rules::specs::P4::padding, rules::specs::Solids::row_bytes))]
 fn padding_bits(width: usize) -> usize
     ensures { Padding width result }
 {
@@ -23,44 +26,30 @@ fn cut_byte(b: u8, bits: usize) -> u8
     (b >> bits) << bits
 }
 
-// A plain copy, which the compiler makes moves of sixteen bytes.
-fn copy_bytes(src: &[u8], from: usize, out: &mut [u8], to: usize, count: usize)
-    requires { CopyRoom src.now from out.old to count }
-    ensures { out.new ≡ sets out.old to (take count (drop from src.now)) }
+// The padding bits of a slice's rows, set to zero in their last bytes.
+fn clear_padding(out: &mut [u8], at: usize, size: SliceSize)
+    requires { at + slice_bytes size.width size.height ≤ length out.old }
+    ensures { out.new ≡ cleared size.height size.width out.old at }
 {
-    let mut i = 0;
-    while i < count {
-        out[to + i] = src[from + i];
-        i = i + 1;
-    }
-}
-
-// The padding bits of so many rows, set to zero in their last bytes.
-fn clear_padding(out: &mut [u8], at: usize, width: usize, count: usize)
-    requires { RowRoom out.old at width count }
-    ensures { out.new ≡ cleared count width out.old at }
-{
-    let bytes = stack::row_bytes(width);
-    let bits = padding_bits(width);
-    let mut o = at;
-    let mut left = count;
-    while 0 < left {
-        let last = o + (bytes - 1);
+    let bytes = size.row_bytes();
+    let bits = padding_bits(size.width);
+    let mut start = at;
+    for _ in 0..size.height {
+        let last = start + (bytes - 1);
         out[last] = cut_byte(out[last], bits);
-        o = o + bytes;
-        left = left - 1;
+        start += bytes;
     }
 }
 
-// The rows at `from`, with padding bits zero, to `to`.
-pub fn copy_rows(src: &[u8], from: usize, out: &mut [u8], to: usize, width: usize, height: usize)
-    requires { (SliceSides width height) × (CopyRoom src.now from out.old to (slice_bytes width height)) }
-    ensures { out.new ≡ sets out.old to (rows height width (drop from src.now)) }
+// The first rows of src, with padding bits zero.
+pub fn copy_rows(src: &[u8], out: &mut Writer, size: SliceSize)
+    requires { CopyRoom src.now out.old (slice_bytes size.width size.height) }
+    ensures { Put out.old (rows size.height size.width src.now) out.new }
 {
-    let size = stack::slice_bytes(width, height);
-    copy_bytes(src, from, out, to, size);
-    if width % 8 == 0 {
+    let start = out.at;
+    out.put(&src[..size.bytes()]);
+    if size.width % 8 == 0 {
         return;
     }
-    clear_padding(out, to, width, height);
+    clear_padding(out.out, start, size);
 }

@@ -1,71 +1,68 @@
-// The answers of P4's reader and writer, printed for the programs that try them.
+// The answers of P4's reader and writer, as the programs that try them print them.
 #![tactic(auto)]
 
-use rules::{Reading, Stack, Writing};
+ghost use Rattle.std.specs.Prelude.{Some};
+ghost use Rattle.p4_show.specs.Texts.{refused, stack, reading, writing, bytes};
 
-const STDOUT_FILENO: i32 = 1;
+use rules::{Reading, RefusedStack, Stack, Writing};
+use std::fmt;
 
-fn show_number(n: u32) {
-    let mut buffer = [0u8; 10];
-    let end = text::put_number(&mut buffer, 0, n);
-    io::write_all(STDOUT_FILENO, &buffer[..end]);
-}
+// What is printed in the programs' form.
+#[derive(Drop)]
+pub struct Shown<T>(pub T);
 
-// A size; one beyond 32 bits is shown as the largest number of 32 bits.
-fn show_size(n: usize) {
-    if n < 4294967295 {
-        show_number(n as u32);
-        return;
-    }
-    show_number(4294967295);
-}
+impl fmt::Display for Shown<RefusedStack> {
+    ghost output = { λ s. Some (refused s.0) };
 
-// The sides of a stack that was read are above zero.
-fn show_sides(stack: Stack) {
-    let width = stack.width;
-    let height = stack.height;
-    let depth = stack.depth;
-    show_number(size::size_of(width));
-    io::write_all(STDOUT_FILENO, b" ");
-    show_number(size::size_of(height));
-    io::write_all(STDOUT_FILENO, b" ");
-    show_number(size::size_of(depth));
-}
-
-fn show_refusal(number: u32, place: usize) {
-    io::write_all(STDOUT_FILENO, b"refused ");
-    show_number(number);
-    io::write_all(STDOUT_FILENO, b" ");
-    show_size(place);
-}
-
-pub fn show_reading(r: Reading) {
-    match r {
-        Reading::Read(stack) => {
-            io::write_all(STDOUT_FILENO, b"stack ");
-            show_sides(stack);
-        }
-        Reading::Unread(number, place) => show_refusal(number, place),
+    fn fmt<W: fmt::Write>(&self, f: &mut fmt::Formatter<W>) -> fmt::Result {
+        let RefusedStack { number, value } = self.0;
+        write!(f, "refused {number} {value}")
     }
 }
 
-pub fn show_writing(w: Writing) {
-    match w {
-        Writing::Written(n) => {
-            io::write_all(STDOUT_FILENO, b"written ");
-            show_size(n);
+impl fmt::Display for Shown<Stack> {
+    ghost output = { λ s. Some (stack s.0) };
+
+    fn fmt<W: fmt::Write>(&self, f: &mut fmt::Formatter<W>) -> fmt::Result {
+        let Stack {
+            width,
+            height,
+            depth,
+        } = self.0;
+        write!(f, "stack {width} {height} {depth}")
+    }
+}
+
+impl fmt::Display for Shown<Reading> {
+    ghost output = { λ s. Some (reading s.0) };
+
+    fn fmt<W: fmt::Write>(&self, f: &mut fmt::Formatter<W>) -> fmt::Result {
+        match self.0 {
+            Ok(stack) => Shown(stack).fmt(f),
+            Err(refused) => Shown(refused).fmt(f),
         }
-        Writing::Unwritten(number, place) => show_refusal(number, place),
+    }
+}
+
+impl fmt::Display for Shown<Writing> {
+    ghost output = { λ s. Some (writing s.0) };
+
+    fn fmt<W: fmt::Write>(&self, f: &mut fmt::Formatter<W>) -> fmt::Result {
+        match self.0 {
+            Ok(count) => write!(f, "written {count}"),
+            Err(refused) => Shown(refused).fmt(f),
+        }
     }
 }
 
 // Each byte as a number, behind a comma.
-pub fn show_bytes(bytes: &[u8]) {
-    let mut i = 0;
-    while i < bytes.len() {
-        io::write_all(STDOUT_FILENO, b",");
-        let b = bytes[i];
-        show_number(b as u32);
-        i = i + 1;
+impl fmt::Display for Shown<&[u8]> {
+    ghost output = { λ s. Some (bytes s.0.now) };
+
+    fn fmt<W: fmt::Write>(&self, f: &mut fmt::Formatter<W>) -> fmt::Result {
+        for b in self.0 {
+            write!(f, ",{b}")?;
+        }
+        Ok(())
     }
 }

@@ -1,25 +1,17 @@
--- How many digits a side has.
-use mathlib.Core.Path.{sym, ap, ◌∙◌}
-use mathlib.Core.List.{[], ◌∷◌}
-use Prim.Native.Nat.{ℕ, ◌+◌, ◌/◌, ◌≤◌, ◌<◌}
-use native.Mathlib.Omega.{arith}
-use lib.ListN.{length, length-append}
+-- How many digits a side has: as many as its logarithm says.
+use Rattle.std.proofs.Common.{◌≡◌, sym, ap, ◌∙◌, [], ◌∷◌, ℕ, zero, suc, ◌+◌, ◌*◌, ◌/◌, ◌^◌, ◌≤◌, ◌<◌, length, arith, length-append, pow-suc}
 use Rattle.rules.specs.Decimals.{figure, decimal}
 use Rattle.stack.specs.Sides.{Side}
-use Rattle.text.specs.Decimals.{decimal-one, decimal-more}
+use Rattle.text.specs.Decimals.{decimal-one, decimal-more, decimal-length}
 use Rattle.p4_write.specs.Slices.{Figures}
 
-pub one-figure : (n : ℕ) → n < 10 → Figures n 1
-one-figure n h = record { is = sym (ap length (decimal-one n h)); few = omega arith }
+digits-many : (k n : ℕ) → 10 ^ k ≤ n → n < 10 * 10 ^ k → length (decimal n) ≡ k + 1
+digits-many zero n l h = ap length (decimal-one n h)
+digits-many (suc k) n l h =
+    let p = pow-suc 10 k in
+    let more = digits-many k (n / 10) (omega arith) (omega arith) in
+    let e = ap length (decimal-more n (omega arith)) ∙ length-append (decimal (n / 10)) (figure n ∷ []) in
+    omega arith
 
-more-figures : (n : ℕ) {k : ℕ} → 10 ≤ n → k + 1 ≤ 3 → Figures (n / 10) k → Figures n (k + 1)
-more-figures n {k} h l F = record {
-  is = ap (λ (x : ℕ). x + 1) F.is ∙ sym (ap length (decimal-more n h) ∙ length-append (decimal (n / 10)) (figure n ∷ []));
-  few = l;
-}
-
-pub two-figures : (n : ℕ) → 10 ≤ n → n < 100 → Figures n 2
-two-figures n h l = more-figures n h (omega arith) (one-figure (n / 10) (omega arith))
-
-pub three-figures : (n : ℕ) → 10 ≤ n → 100 ≤ n → Side n → Figures n 3
-three-figures n h l s = let m = s.most in more-figures n h (omega arith) (two-figures (n / 10) (omega arith) (omega arith))
+pub figures-of : {n : ℕ} (k : ℕ) → Side n → 10 ^ k ≤ n → n < 10 * 10 ^ k → Figures n (k + 1)
+figures-of {n} k s l h = record { is = sym (digits-many k n l h); few = let m = s.most in let e = digits-many k n l h in omega (arith, decimal-length 2 n (omega arith)) }

@@ -1,49 +1,48 @@
 -- The plain header, put part by part: after each part there is room for the next, and all parts in a row are the header.
-use mathlib.Core.List.{List, [], ◌∷◌, ◌++◌}
-use Prim.Native.Nat.{ℕ}
+use Rattle.std.proofs.Common.{List, [], ◌∷◌, ◌++◌, ℕ}
 use Rattle.rules.specs.Decimals.{decimal}
 use Rattle.rules.specs.P4.{plain_header}
+use Rattle.text.specs.declared.Writer.{Writer}
 use Rattle.text.specs.Put.{Room, Put}
 use Rattle.text.specs.Puts.{put_then, room-first, room-then}
-use Rattle.p4_write.specs.Slices.{HeaderRoom}
 
-module _ {out : List ℕ} {at w h : ℕ} (R : HeaderRoom out at w h) where
-  abbrev after-space : List ℕ
-  after-space = decimal h ++ (10 ∷ [])
+abbrev after-space : ℕ → List ℕ
+after-space h = decimal h ++ (10 ∷ [])
 
-  abbrev after-width : List ℕ
-  after-width = 32 ∷ after-space
+abbrev after-width : ℕ → List ℕ
+after-width h = 32 ∷ after-space h
 
-  abbrev after-magic : List ℕ
-  after-magic = decimal w ++ after-width
+abbrev after-magic : ℕ → ℕ → List ℕ
+after-magic w h = decimal w ++ after-width h
 
-  all : Room out at ((80 ∷ 52 ∷ 10 ∷ []) ++ after-magic)
+module _ {u : Writer} (w h : ℕ) (R : Room u (plain_header w h)) where
+  all : Room u ((80 ∷ 52 ∷ 10 ∷ []) ++ (after-magic w h))
   unfolding plain_header
-  all = R.room
+  all = R
 
-  pub room-magic : Room out at (80 ∷ 52 ∷ 10 ∷ [])
-  room-magic = room-first (80 ∷ 52 ∷ 10 ∷ []) after-magic all
+  pub room-magic : Room u (80 ∷ 52 ∷ 10 ∷ [])
+  room-magic = room-first (80 ∷ 52 ∷ 10 ∷ []) (after-magic w h) all
 
-  module _ {o₁ : List ℕ} {a : ℕ} (A : Put out at (80 ∷ 52 ∷ 10 ∷ []) o₁ a) where
-    pub room-width : Room o₁ a (decimal w)
-    room-width = room-first (decimal w) after-width (room-then after-magic all A)
+  module _ {a : Writer} (A : Put u (80 ∷ 52 ∷ 10 ∷ []) a) where
+    pub room-width : Room a (decimal w)
+    room-width = room-first (decimal w) (after-width h) (room-then (after-magic w h) all A)
 
-    module _ {o₂ : List ℕ} {b : ℕ} (B : Put o₁ a (decimal w) o₂ b) where
-      pub room-space : Room o₂ b (32 ∷ [])
-      room-space = room-first (32 ∷ []) after-space (room-then after-width (room-then after-magic all A) B)
+    module _ {b : Writer} (B : Put a (decimal w) b) where
+      pub room-space : Room b (32 ∷ [])
+      room-space = room-first (32 ∷ []) (after-space h) (room-then (after-width h) (room-then (after-magic w h) all A) B)
 
-      module _ {o₃ : List ℕ} {c : ℕ} (C : Put o₂ b (32 ∷ []) o₃ c) where
-        rest : Room o₃ c after-space
-        rest = room-then {a = 32 ∷ []} after-space (room-then after-width (room-then after-magic all A) B) C
+      module _ {c : Writer} (C : Put b (32 ∷ []) c) where
+        rest : Room c (after-space h)
+        rest = room-then {a = 32 ∷ []} (after-space h) (room-then (after-width h) (room-then (after-magic w h) all A) B) C
 
-        pub room-height : Room o₃ c (decimal h)
+        pub room-height : Room c (decimal h)
         room-height = room-first (decimal h) (10 ∷ []) rest
 
-        module _ {o₄ : List ℕ} {d : ℕ} (D : Put o₃ c (decimal h) o₄ d) where
+        module _ {d : Writer} (D : Put c (decimal h) d) where
           -- for a byte, whatever it is
-          pub room-end : (x : ℕ) → Room o₄ d (x ∷ [])
+          pub room-end : (x : ℕ) → Room d (x ∷ [])
           room-end x = record { fits = (room-then (10 ∷ []) rest D).fits }
 
-          pub header-put : {o₅ : List ℕ} {e : ℕ} → Put o₄ d (10 ∷ []) o₅ e → Put out at (plain_header w h) o₅ e
+          pub header-put : {e : Writer} → Put d (10 ∷ []) e → Put u (plain_header w h) e
           unfolding plain_header
           header-put E = put_then A (put_then B (put_then {a = 32 ∷ []} C (put_then D E)))

@@ -3,80 +3,67 @@
 
 ghost use Rattle.rules.specs.P4.{sizes, plain_header, slices, WritePromise};
 ghost use Rattle.stack.specs.Sides.{Side};
-ghost use Rattle.text.specs.Put.{Put};
-ghost use Rattle.p4_write.specs.Slices.{Figures, HeaderRoom, SlicesAsk, SlicesRoom};
+ghost use Rattle.text.specs.Put.{Room, Put};
+ghost use Rattle.p4_write.specs.Slices.{Figures, SlicesAsk, SlicesRoom};
 
-use rules::{Stack, Writing};
+use rules::{Refusal, Stack, Writing};
+use stack::SliceSize;
+use text::Writer;
 
 // How many digits a side has.
 fn figures(n: usize) -> usize
     requires { Side n }
     ensures { Figures n result }
 {
-    if n < 10 {
-        return 1;
-    }
-    if n < 100 {
-        return 2;
-    }
-    3
+    n.ilog10() as usize + 1
 }
 
-fn put_header(out: &mut [u8], at: usize, width: usize, height: usize) -> usize
-    requires { HeaderRoom out.old at width height }
-    ensures { Put out.old at (plain_header width height) out.new result }
+fn put_header(out: &mut Writer, size: SliceSize)
+    requires { Room out.old (plain_header size.width size.height) }
+    ensures { Put out.old (plain_header size.width size.height) out.new }
 {
-    let w = width as u32;
-    let h = height as u32;
-    let a = text::put(out, at, b"P4\n");
-    let b = text::put_number(out, a, w);
-    let c = text::put(out, b, b" ");
-    let d = text::put_number(out, c, h);
-    text::put(out, d, b"\n")
+    out.put(b"P4\n");
+    out.put_number(size.width as u32);
+    out.put(b" ");
+    out.put_number(size.height as u32);
+    out.put(b"\n");
 }
 
-// All slices, at the front of out: the place behind them.
-fn write_slices(width: usize, height: usize, depth: usize, bytes: &[u8], out: &mut [u8]) -> usize
-    requires { SlicesRoom width height depth bytes.now out.old }
-    ensures { Put out.old 0 (slices depth width height bytes.now) out.new result }
+fn write_slices(size: SliceSize, depth: usize, bytes: &[u8], out: &mut Writer)
+    requires { SlicesRoom size.width size.height depth bytes.now out.old }
+    ensures { Put out.old (slices depth size.width size.height bytes.now) out.new }
 {
-    let size = stack::slice_bytes(width, height);
-    let mut at = 0;
-    let mut from = 0;
-    let mut left = depth;
-    while 0 < left {
-        let rows = put_header(out, at, width, height);
-        p4_rows::copy_rows(bytes, from, out, rows, width, height);
-        at = rows + size;
-        from = from + size;
-        left = left - 1;
+    for z in 0..depth {
+        put_header(out, size);
+        p4_rows::copy_rows(&bytes[z * size.bytes()..], out, size);
     }
-    at
 }
 
-fn write_stack(width: usize, height: usize, depth: usize, bytes: &[u8], out: &mut [u8]) -> Writing
-    requires { SlicesAsk width height depth bytes.now }
-    ensures { WritePromise (sizes width height depth) bytes.now out.old out.new result }
+// At the front of out, if there is room.
+fn write_stack(size: SliceSize, depth: usize, bytes: &[u8], out: &mut [u8]) -> Writing
+    requires { SlicesAsk size.width size.height depth bytes.now }
+    ensures { WritePromise (sizes size.width size.height depth) bytes.now out.old out.new result }
 {
-    let size = stack::slice_bytes(width, height);
-    let a = figures(width);
-    let b = figures(height);
-    let need = depth * (5 + (a + b) + size);
+    let header = 5 + figures(size.width) + figures(size.height);
+    let need = depth * (header + size.bytes());
     if out.len() < need {
-        return Writing::Unwritten(27, need);
+        return Err(p4_header::refuse(Refusal::Room, need));
     }
-    Writing::Written(write_slices(width, height, depth, bytes, out))
+    let mut writer = Writer { out, at: 0 };
+    write_slices(size, depth, bytes, &mut writer);
+    Ok(writer.at)
 }
 
 // The plain form of a stack, at the front of out.
 pub fn write(stack: Stack, bytes: &[u8], out: &mut [u8]) -> Writing
     ensures { WritePromise stack bytes.now out.old out.new result }
 {
-    if stack::is_permitted(stack, bytes) {
-        let width = stack.width as usize;
-        let height = stack.height as usize;
-        let depth = stack.depth as usize;
-        return write_stack(width, height, depth, bytes, out);
+    if !stack::is_permitted(stack, bytes) {
+        return Err(p4_header::refuse(Refusal::Solid, 0));
     }
-    Writing::Unwritten(3, 0)
+    let size = SliceSize {
+        width: stack.width as usize,
+        height: stack.height as usize,
+    };
+    write_stack(size, stack.depth as usize, bytes, out)
 }

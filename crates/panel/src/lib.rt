@@ -9,35 +9,30 @@ use flat::{
     FlatCheck, FlatDisplay, FlatFirm, FlatLean, FlatPick, FlatReading, FlatReady, FlatTouch,
     FlatWriting,
 };
-use rules::{Stack, Vector, Wedge};
+use rules::{Solid, Stack, Vector, Wedge};
 
 // ---- plain numbers as the core has them
 
 fn wedge_of(a: i32, b: i32, c: i32, h: i32) -> Wedge
     ensures { result ≡ wedge a b c h }
 {
-    Wedge {
-        a: a,
-        b: b,
-        c: c,
-        h: h,
-    }
+    Wedge { a, b, c, h }
 }
 
 fn stack_of(width: i32, height: i32, depth: i32) -> Stack
     ensures { result ≡ stack width height depth }
 {
     Stack {
-        width: width,
-        height: height,
-        depth: depth,
+        width,
+        height,
+        depth,
     }
 }
 
 fn point(x: i32, y: i32, z: i32) -> Vector
     ensures { result ≡ vector x y z }
 {
-    Vector { x: x, y: y, z: z }
+    Vector { x, y, z }
 }
 
 // ---- the interface
@@ -55,9 +50,9 @@ pub fn ulgenzhir_pick_wedge(
 ) -> FlatPick
     ensures { PickedWedge (wedge a b c h) (vector px py pz) frame reach result }
 {
-    let w = wedge_of(a, b, c, h);
+    let wedge = Solid::Wedge(wedge_of(a, b, c, h));
     let p = point(px, py, pz);
-    flat::flatten_pick(pick::pick_wedge(w, p, frame, reach))
+    pick::pick_solid(wedge, b"", p, frame, reach).into()
 }
 
 pub fn ulgenzhir_pick_stack(
@@ -73,9 +68,9 @@ pub fn ulgenzhir_pick_stack(
 ) -> FlatPick
     ensures { PickedStack (stack width height depth) bytes.now (vector px py pz) frame reach result }
 {
-    let k = stack_of(width, height, depth);
+    let stack = Solid::Stack(stack_of(width, height, depth));
     let p = point(px, py, pz);
-    flat::flatten_pick(pick::pick_stack(k, bytes, p, frame, reach))
+    pick::pick_solid(stack, bytes, p, frame, reach).into()
 }
 
 pub fn ulgenzhir_touch_wedge(
@@ -91,9 +86,9 @@ pub fn ulgenzhir_touch_wedge(
 ) -> FlatTouch
     ensures { TouchedWedge (wedge a b c h) (vector px py pz) frame reach result }
 {
-    let w = wedge_of(a, b, c, h);
+    let wedge = Solid::Wedge(wedge_of(a, b, c, h));
     let p = point(px, py, pz);
-    flat::flatten_touch(pick::touch_wedge(w, p, frame, reach))
+    pick::touch_solid(wedge, b"", p, frame, reach).into()
 }
 
 pub fn ulgenzhir_touch_stack(
@@ -109,9 +104,9 @@ pub fn ulgenzhir_touch_stack(
 ) -> FlatTouch
     ensures { TouchedStack (stack width height depth) bytes.now (vector px py pz) frame reach result }
 {
-    let k = stack_of(width, height, depth);
+    let stack = Solid::Stack(stack_of(width, height, depth));
     let p = point(px, py, pz);
-    flat::flatten_touch(pick::touch_stack(k, bytes, p, frame, reach))
+    pick::touch_solid(stack, bytes, p, frame, reach).into()
 }
 
 pub fn ulgenzhir_check_wedge(
@@ -127,9 +122,9 @@ pub fn ulgenzhir_check_wedge(
 ) -> FlatCheck
     ensures { CheckedWedge (wedge a b c h) (vector px py pz) frame reach result }
 {
-    let w = wedge_of(a, b, c, h);
+    let wedge = Solid::Wedge(wedge_of(a, b, c, h));
     let p = point(px, py, pz);
-    flat::flatten_check(pick::check_wedge(w, p, frame, reach))
+    pick::check_solid(wedge, b"", p, frame, reach).into()
 }
 
 pub fn ulgenzhir_check_stack(
@@ -145,9 +140,9 @@ pub fn ulgenzhir_check_stack(
 ) -> FlatCheck
     ensures { CheckedStack (stack width height depth) bytes.now (vector px py pz) frame reach result }
 {
-    let k = stack_of(width, height, depth);
+    let stack = Solid::Stack(stack_of(width, height, depth));
     let p = point(px, py, pz);
-    flat::flatten_check(pick::check_stack(k, bytes, p, frame, reach))
+    pick::check_solid(stack, bytes, p, frame, reach).into()
 }
 
 pub fn ulgenzhir_walk_wedge(
@@ -161,9 +156,8 @@ pub fn ulgenzhir_walk_wedge(
 ) -> FlatPick
     ensures { WalkedWedge (wedge a b c h) ready frame reach result }
 {
-    let w = wedge_of(a, b, c, h);
-    let d = flat::ready_of(ready);
-    flat::flatten_pick(pick::walk_wedge(w, d, frame, reach))
+    let wedge = Solid::Wedge(wedge_of(a, b, c, h));
+    pick::walk_solid(wedge, b"", ready.into(), frame, reach).into()
 }
 
 pub fn ulgenzhir_walk_stack(
@@ -177,16 +171,14 @@ pub fn ulgenzhir_walk_stack(
 ) -> FlatPick
     ensures { WalkedStack (stack width height depth) bytes.now ready frame reach result }
 {
-    let k = stack_of(width, height, depth);
-    let d = flat::ready_of(ready);
-    flat::flatten_pick(pick::walk_stack(k, bytes, d, frame, reach))
+    let stack = Solid::Stack(stack_of(width, height, depth));
+    pick::walk_solid(stack, bytes, ready.into(), frame, reach).into()
 }
 
 pub fn ulgenzhir_known_lean(pick: FlatPick, reach: i32) -> FlatLean
     ensures { KnewLean pick reach result }
 {
-    let answer = flat::handed_pick(pick);
-    flat::flatten_lean(lean::known_lean(answer, reach))
+    lean::known_lean(pick.into(), reach).into()
 }
 
 pub fn ulgenzhir_firm_wedge(
@@ -200,9 +192,8 @@ pub fn ulgenzhir_firm_wedge(
 ) -> FlatFirm
     ensures { FirmedWedge (wedge a b c h) pick frame reach result }
 {
-    let w = wedge_of(a, b, c, h);
-    let answer = flat::handed_pick(pick);
-    flat::flatten_firm(firm::firm_wedge(w, answer, frame, reach))
+    let wedge = Solid::Wedge(wedge_of(a, b, c, h));
+    firm::firm_solid(wedge, b"", pick.into(), frame, reach).into()
 }
 
 pub fn ulgenzhir_firm_stack(
@@ -216,15 +207,14 @@ pub fn ulgenzhir_firm_stack(
 ) -> FlatFirm
     ensures { FirmedStack (stack width height depth) bytes.now pick frame reach result }
 {
-    let k = stack_of(width, height, depth);
-    let answer = flat::handed_pick(pick);
-    flat::flatten_firm(firm::firm_stack(k, bytes, answer, frame, reach))
+    let stack = Solid::Stack(stack_of(width, height, depth));
+    firm::firm_solid(stack, bytes, pick.into(), frame, reach).into()
 }
 
 pub fn ulgenzhir_read_p4(src: &[u8], rows: &mut [u8]) -> FlatReading
     ensures { ReadP4 src.now rows.old rows.new result }
 {
-    flat::flatten_reading(p4_read::read(src, rows))
+    p4_read::read(src, rows).into()
 }
 
 pub fn ulgenzhir_write_p4(
@@ -236,12 +226,12 @@ pub fn ulgenzhir_write_p4(
 ) -> FlatWriting
     ensures { WroteP4 (stack width height depth) bytes.now out.old out.new result }
 {
-    let k = stack_of(width, height, depth);
-    flat::flatten_writing(p4_write::write(k, bytes, out))
+    let stack = stack_of(width, height, depth);
+    p4_write::write(stack, bytes, out).into()
 }
 
 pub fn ulgenzhir_display(nx: i32, ny: i32, nz: i32) -> FlatDisplay
     ensures { Displayed nx ny nz result }
 {
-    flat::flatten_display(display::display_normal(nx, ny, nz))
+    display::display_normal(nx, ny, nz).into()
 }

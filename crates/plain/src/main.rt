@@ -2,42 +2,36 @@
 // It reads at most 65,536 bytes; no stack in them has more rows or a longer plain form than that.
 #![tactic(auto)]
 
-ghost use Rattle.io.specs.Counts.{IsPrefixLen};
+ghost use Rattle.std.specs.Prelude.{◌≤◌, length, IfOk};
 
-use rules::{Reading, Writing};
+use p4_show::Shown;
+use rules::Writing;
+use std::io;
+use std::io::{Read, Write};
 
-const STDIN_FILENO: i32 = 0;
+const MOST: usize = 65536;
 
-const STDOUT_FILENO: i32 = 1;
-
-// The plain form of the stack in src, at the front of out: how many bytes. Nothing, and the refusal printed, if there is none.
-fn make_plain(src: &[u8], rows: &mut [u8], out: &mut [u8]) -> usize
-    ensures { IsPrefixLen result out.new }
+// The plain form of the stack in src, at the front of out: how many bytes.
+fn make_plain(src: &[u8], rows: &mut [u8], out: &mut [u8]) -> Writing
+    ensures { IfOk result (λ count. count ≤ length out.new) }
 {
-    let answer = p4_read::read(src, rows);
-    match answer {
-        Reading::Unread(_, _) => {
-            p4_show::show_reading(answer);
-            0
-        }
-        Reading::Read(stack) => {
-            let written = p4_write::write(stack, rows, out);
-            match written {
-                Writing::Unwritten(_, _) => {
-                    p4_show::show_writing(written);
-                    0
-                }
-                Writing::Written(n) => n,
-            }
-        }
-    }
+    let stack = p4_read::read(src, rows)?;
+    p4_write::write(stack, rows, out)
 }
 
-fn main() {
-    let mut input = io::large_buffer();
-    let n = io::read_full(STDIN_FILENO, &mut input);
-    let mut rows = io::large_buffer();
-    let mut out = io::large_buffer();
-    let m = make_plain(&input[..n], &mut rows, &mut out);
-    io::write_all(STDOUT_FILENO, &out[..m]);
+fn main(rt: HostRuntime) -> io::Result<()> {
+    let alloc = rt.alloc();
+    let mut input = Vec::with_capacity(alloc, MOST)?;
+    // A read that fails ends the input, and a write that fails is passed over.
+    let _ = rt.reader().take(MOST as u64).read_to_end(&mut input);
+    let mut rows = vec![in alloc; 0; MOST]?;
+    let mut out = vec![in alloc; 0; MOST]?;
+    let _ = match make_plain(&input, &mut rows, &mut out) {
+        Ok(count) => io::writer(&rt).write_all(&out[..count]),
+        Err(refused) => {
+            let refused = Shown(refused);
+            print!(rt; "{refused}")
+        }
+    };
+    Ok(())
 }

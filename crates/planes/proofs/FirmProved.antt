@@ -21,16 +21,16 @@ use Rattle.rules.specs.declared.Accepted.{Accepted as AcceptedPick}
 use Rattle.rules.specs.declared.Refused.{Refused as RefusedPick}
 use Rattle.rules.specs.declared.Bound.{Bound}
 use Rattle.rules.specs.declared.Footing.{Footing}
-use Rattle.rules.specs.declared.Pick.{Pick}
-use Rattle.rules.specs.declared.Pick.TheVariants.{Accepted}
-use Rattle.rules.specs.declared.Firm.TheVariants.{Stands, Refused as FirmRefused}
+use Rattle.rules.specs.Answers.{Pick}
+use Rattle.std.specs.Prelude.{Ok as Accepted, Ok as Stands, Err as FirmRefused}
 use Rattle.rules.specs.Vectors.{◌⊕◌, scale, dot}
 use Rattle.rules.specs.Solids.{box, in_box, permitted, look}
 use Rattle.rules.specs.Asked.{Asked, answered, refused}
 use Rattle.rules.specs.Walk.{Stop, signs, powers, first, all_level, Probe, Found, found}
 use Rattle.rules.specs.Pick.{is_inside, refused_answer}
 use Rattle.rules.specs.Lean.{levels_of, last, bound_at}
-use Rattle.rules.specs.Firm.{Way, belongs, way_of, footing, held, start_under, firm, firm_answer, firm_of}
+use Rattle.rules.specs.declared.Way.{Way}
+use Rattle.rules.specs.Firm.{belongs, way_of, footing, held, start_under, firm, firm_answer, firm_of}
 use Rattle.laws.specs.Tests.{Each, In, is_true, less, not-less}
 use Rattle.laws.specs.Only.{each_of}
 use Rattle.laws.specs.Parts.{part, part-sum, part-scale, vector-by-parts, vector-eq, dot-sum, dot-scale, scale-dot}

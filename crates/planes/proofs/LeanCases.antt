@@ -3,7 +3,7 @@ use Rattle.std.specs.Prelude.{◌≡◌, refl, T, leb, ℕ, ◌*◌, ℤ, pos}
 use Rattle.std.proofs.Common.{arith, leb→le}
 use Rattle.rules.specs.declared.Vector.{Vector}
 use Rattle.rules.specs.declared.Accepted.{Accepted as AcceptedPick}
-use Rattle.rules.specs.declared.Pick.TheVariants.{Accepted}
+use Rattle.std.specs.Prelude.{Ok as Accepted}
 use Rattle.rules.specs.Vectors.{vector, ◌⊕◌, ◌⊖◌, minus, scale, dot, cross, det, sphere, lay, size}
 use Rattle.rules.specs.Solids.{between, permitted_wedge, filled_wedge, in_box, look}
 use Rattle.rules.specs.Asked.{after, ◌>>=◌}

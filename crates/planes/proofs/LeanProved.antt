@@ -13,13 +13,14 @@ use Rattle.rules.specs.declared.Look.TheVariants.{Filled, Empty}
 use Rattle.rules.specs.declared.Levels.{Levels}
 use Rattle.rules.specs.declared.Triangle.{Triangle}
 use Rattle.rules.specs.declared.Accepted.{Accepted as AcceptedPick}
-use Rattle.rules.specs.declared.Pick.TheVariants.{Accepted}
-use Rattle.rules.specs.declared.Lean.TheVariants.{Known}
+use Rattle.std.specs.Prelude.{Ok as Accepted, Ok as Known}
 use Rattle.rules.specs.Vectors.{◌⊕◌, minus, scale, dot, lay}
 use Rattle.rules.specs.Solids.{between, filled_wedge, look}
 use Rattle.rules.specs.Walk.{unit}
 use Rattle.rules.specs.Lean.{levels_of, last_power, bound_at, measurable, lean_of}
-use Rattle.rules.specs.Firm.{Way, sideways, along, against, belongs, way_of, footing}
+use Rattle.rules.specs.declared.Way.{Way}
+use Rattle.rules.specs.declared.Way.TheVariants.{Sideways as sideways, Along as along, Against as against}
+use Rattle.rules.specs.Firm.{belongs, way_of, footing}
 use Rattle.laws.specs.Tests.{Each, is_true}
 use Rattle.laws.specs.Parts.{part, part-minus, vector-by-parts, dot-sum, dot-scale, dot-minus, scale-dot}
 use Rattle.laws.specs.Frames.{signs-are, lay-minus}

@@ -7,7 +7,8 @@ use Rattle.rules.specs.declared.Vector.{Vector}
 use Rattle.rules.specs.declared.Levels.{Levels}
 use Rattle.rules.specs.declared.Triangle.{Triangle}
 use Rattle.rules.specs.Vectors.{dot, cross, det, lay}
-use Rattle.rules.specs.Walk.{Axis, unit, vector_of, level, all_level, Probe, Found, laid, found}
+use Rattle.rules.specs.declared.Axis.{Axis}
+use Rattle.rules.specs.Walk.{unit, vector_of, level, all_level, Probe, Found, laid, found}
 use Rattle.rules.specs.Lean.{levels_of}
 use Rattle.laws.specs.Parts.{part, dot-unit}
 use Rattle.laws.specs.Triples.{det_of, of12}

@@ -8,11 +8,9 @@ use Rattle.rules.specs.declared.Look.TheVariants.{Filled, Empty}
 use Rattle.rules.specs.declared.ReadyStart.{ReadyStart}
 use Rattle.rules.specs.declared.Accepted.{Accepted as AcceptedPick}
 use Rattle.rules.specs.declared.Refused.{Refused as RefusedPick}
-use Rattle.rules.specs.declared.Pick.{Pick}
-use Rattle.rules.specs.declared.Pick.TheVariants.{Accepted}
+use Rattle.rules.specs.Answers.{Pick, Firm}
+use Rattle.std.specs.Prelude.{Ok as Accepted, Ok as Stands, Err as FirmRefused}
 use Rattle.rules.specs.declared.Footing.{Footing}
-use Rattle.rules.specs.declared.Firm.{Firm}
-use Rattle.rules.specs.declared.Firm.TheVariants.{Stands, Refused as FirmRefused}
 use Rattle.rules.specs.Vectors.{vector, ◌⊕◌, scale, dot, cross, size}
 use Rattle.rules.specs.Solids.{box, in_box, filled, look}
 use Rattle.rules.specs.Walk.{signs, powers}

@@ -4,8 +4,7 @@ use Rattle.std.proofs.Common.{leb→le}
 use Rattle.std.specs.Int.Signed.{le_z_yes, lt_z_yes}
 use Rattle.rules.specs.declared.Accepted.{Accepted as AcceptedPick}
 use Rattle.rules.specs.declared.Footing.{Footing}
-use Rattle.rules.specs.declared.Pick.TheVariants.{Accepted}
-use Rattle.rules.specs.declared.Firm.TheVariants.{Stands}
+use Rattle.std.specs.Prelude.{Ok as Accepted, Ok as Stands}
 use Rattle.rules.specs.Vectors.{◌⊕◌, ◌⊖◌, minus, scale, dot, cross, det, sphere, lay, size}
 use Rattle.rules.specs.Solids.{between, permitted_wedge, filled_wedge, in_box, look}
 use Rattle.rules.specs.Asked.{after, ◌>>=◌}

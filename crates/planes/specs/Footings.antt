@@ -5,9 +5,12 @@ use Rattle.std.proofs.Math.Dec.{T}
 use Rattle.rules.specs.declared.Vector.{Vector}
 use Rattle.rules.specs.declared.Pair.TheVariants.{P01, P02, P10, P12, P20, P21}
 use Rattle.rules.specs.declared.Accepted.{Accepted as AcceptedPick}
-use Rattle.rules.specs.Walk.{axis0, axis1, axis2, only}
+use Rattle.rules.specs.declared.Axis.TheVariants.{Axis0 as axis0, Axis1 as axis1, Axis2 as axis2}
+use Rattle.rules.specs.Walk.{only}
 use Rattle.rules.specs.Lean.{levels_of}
-use Rattle.rules.specs.Firm.{Way, sideways, along, against, all_ways, belongs, way_of, footing}
+use Rattle.rules.specs.declared.Way.{Way}
+use Rattle.rules.specs.declared.Way.TheVariants.{Sideways as sideways, Along as along, Against as against}
+use Rattle.rules.specs.Firm.{all_ways, belongs, way_of, footing}
 use Rattle.laws.specs.Tests.{Each, In}
 use Rattle.laws.specs.Only.{each_of, each_map, each_member, only-holds, in-only}
 

@@ -14,9 +14,11 @@ use Rattle.rules.specs.declared.Triangle.{Triangle}
 use Rattle.rules.specs.declared.Pair.{Pair}
 use Rattle.rules.specs.declared.Pair.TheVariants.{P01, P02, P10, P12, P20, P21}
 use Rattle.rules.specs.Vectors.{vector, ◌⊕◌, scale, dot, cross, det, lay, size}
-use Rattle.rules.specs.Walk.{Axis, axis0, axis1, axis2, unit, vector_of, from, to, first, second, way, level, all_level, takes_part, levelled, normal, Probe, Found, found}
+use Rattle.rules.specs.declared.Axis.{Axis}
+use Rattle.rules.specs.declared.Axis.TheVariants.{Axis0 as axis0, Axis1 as axis1, Axis2 as axis2}
+use Rattle.rules.specs.Walk.{unit, vector_of, from, to, first, second, way, level, all_level, takes_part, levelled, normal, Probe, Found, found}
 use Rattle.rules.specs.Lean.{levels_of}
-use Rattle.rules.specs.Firm.{sideways, along}
+use Rattle.rules.specs.declared.Way.TheVariants.{Sideways as sideways, Along as along}
 use Rattle.laws.specs.Tests.{compared}
 use Rattle.laws.specs.Parts.{NonNegative, part, part-sum, part-scale, vector-eq, of2, dot-difference, scale-dot, scale_one}
 use Rattle.laws.specs.Triples.{all_of, of9, of12, crosses, combined, expand, expand-crosses}

@@ -6,10 +6,9 @@ use Rattle.rules.specs.declared.Vector.{Vector}
 use Rattle.rules.specs.declared.Wedge.{Wedge}
 use Rattle.rules.specs.declared.Stack.{Stack}
 use Rattle.rules.specs.declared.Accepted.{Accepted as AcceptedPick}
-use Rattle.rules.specs.declared.Pick.TheVariants.{Accepted}
+use Rattle.rules.specs.Answers.{Lean}
+use Rattle.std.specs.Prelude.{Ok as Accepted, Ok as Known}
 use Rattle.rules.specs.declared.Bound.{Bound}
-use Rattle.rules.specs.declared.Lean.{Lean}
-use Rattle.rules.specs.declared.Lean.TheVariants.{Known}
 use Rattle.rules.specs.Vectors.{vector, dot, cross, size}
 use Rattle.rules.specs.Solids.{box, in_box, filled}
 use Rattle.rules.specs.Pick.{WedgePromise, StackPromise}

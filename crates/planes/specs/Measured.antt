@@ -14,11 +14,10 @@ use Rattle.rules.specs.declared.Solid.{Solid}
 use Rattle.rules.specs.declared.Levels.{Levels}
 use Rattle.rules.specs.declared.Triangle.{Triangle}
 use Rattle.rules.specs.declared.Pair.{Pair}
-use Rattle.rules.specs.declared.Choice.{Choice}
-use Rattle.rules.specs.declared.Choice.TheVariants.{Nothing, Chosen}
+use Rattle.rules.specs.Answers.{Choice}
+use Rattle.std.specs.Prelude.{None as Nothing, Some as Chosen, Ok as Accepted}
 use Rattle.rules.specs.declared.ReadyStart.{ReadyStart}
 use Rattle.rules.specs.declared.Accepted.{Accepted as AcceptedPick}
-use Rattle.rules.specs.declared.Pick.TheVariants.{Accepted}
 use Rattle.rules.specs.Vectors.{lay, size}
 use Rattle.rules.specs.Solids.{permitted, look}
 use Rattle.rules.specs.Asked.{Asked, answered, refused}

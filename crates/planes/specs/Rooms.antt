@@ -12,8 +12,11 @@ use Rattle.rules.specs.declared.Levels.{Levels}
 use Rattle.rules.specs.declared.Triangle.{Triangle}
 use Rattle.rules.specs.Vectors.{◌⊕◌, scale, dot, lay}
 use Rattle.rules.specs.Solids.{in_side, box, in_box, filled, look}
-use Rattle.rules.specs.Walk.{Axis, unit, vector_of, from, to, first, second, level}
-use Rattle.rules.specs.Firm.{Way, sideways, along, against, belongs, way_of}
+use Rattle.rules.specs.declared.Axis.{Axis}
+use Rattle.rules.specs.Walk.{unit, vector_of, from, to, first, second, level}
+use Rattle.rules.specs.declared.Way.{Way}
+use Rattle.rules.specs.declared.Way.TheVariants.{Sideways as sideways, Along as along, Against as against}
+use Rattle.rules.specs.Firm.{belongs, way_of}
 use Rattle.laws.specs.Tests.{is_true, is-not, compared}
 use Rattle.laws.specs.Parts.{dot-difference, dot-minus}
 use Rattle.laws.specs.Frames.{lay-minus}

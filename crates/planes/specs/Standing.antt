@@ -11,11 +11,10 @@ use Rattle.rules.specs.declared.Vector.{Vector}
 use Rattle.rules.specs.declared.Look.{Look}
 use Rattle.rules.specs.declared.Look.TheVariants.{Filled, Empty, Outside}
 use Rattle.rules.specs.declared.Accepted.{Accepted as AcceptedPick}
-use Rattle.rules.specs.declared.Pick.{Pick}
-use Rattle.rules.specs.declared.Pick.TheVariants.{Accepted, Refused}
+use Rattle.rules.specs.Answers.{Pick}
+use Rattle.std.specs.Prelude.{Ok as Accepted, Err as Refused, Ok as Stands}
 use Rattle.rules.specs.declared.Bound.{Bound}
 use Rattle.rules.specs.declared.Footing.{Footing}
-use Rattle.rules.specs.declared.Firm.TheVariants.{Stands}
 use Rattle.rules.specs.Vectors.{◌⊕◌, scale, origin}
 use Rattle.rules.specs.Solids.{between}
 use Rattle.rules.specs.Asked.{Asked, answered, refused, after, ◌>>=◌}

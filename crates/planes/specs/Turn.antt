@@ -13,9 +13,13 @@ use Rattle.rules.specs.declared.Triangle.{Triangle}
 use Rattle.rules.specs.declared.Pair.{Pair}
 use Rattle.rules.specs.declared.Pair.TheVariants.{P01, P02, P12}
 use Rattle.rules.specs.Vectors.{◌⊕◌, ◌⊖◌, scale, dot, cross, det, lay}
-use Rattle.rules.specs.Walk.{Axis, axis0, axis1, axis2, all_axes, unit, vector_of, from, to, first, second, way, levels, level, none_level, all_level, keep, only, takes_part}
+use Rattle.rules.specs.declared.Axis.{Axis}
+use Rattle.rules.specs.declared.Axis.TheVariants.{Axis0 as axis0, Axis1 as axis1, Axis2 as axis2}
+use Rattle.rules.specs.Walk.{all_axes, unit, vector_of, from, to, first, second, way, levels, level, none_level, all_level, keep, only, takes_part}
 use Rattle.rules.specs.Lean.{squared, sides as side_pairs, longest, spread}
-use Rattle.rules.specs.Firm.{Way, sideways, along, against, belongs, way_of}
+use Rattle.rules.specs.declared.Way.{Way}
+use Rattle.rules.specs.declared.Way.TheVariants.{Sideways as sideways, Along as along, Against as against}
+use Rattle.rules.specs.Firm.{belongs, way_of}
 use Rattle.laws.specs.Tests.{In, is-not, compared}
 use Rattle.laws.specs.Only.{in-only}
 use Rattle.laws.specs.Levels.{lowest}

@@ -9,7 +9,9 @@ use Rattle.rules.specs.declared.Vector.{Vector}
 use Rattle.rules.specs.declared.Look.TheVariants.{Filled}
 use Rattle.rules.specs.declared.Levels.{Levels}
 use Rattle.rules.specs.Vectors.{minus, scale, dot, lay}
-use Rattle.rules.specs.Walk.{Axis, axis0, axis1, axis2, unit, level, all_level, Probe, Found}
+use Rattle.rules.specs.declared.Axis.{Axis}
+use Rattle.rules.specs.declared.Axis.TheVariants.{Axis0 as axis0, Axis1 as axis1, Axis2 as axis2}
+use Rattle.rules.specs.Walk.{unit, level, all_level, Probe, Found}
 use Rattle.rules.specs.Lean.{is_zero}
 use Rattle.laws.specs.Parts.{part, dot-sum, dot-scale, dot-minus, dot-unit}
 use Rattle.laws.specs.Levels.{remains, remaining-count, some-remain, is-zero, levels-of}

@@ -12,13 +12,7 @@ fn count_powers(reach: u32) -> u32
     requires { reach ≤ 256 }
     ensures { result ≡ length (powers reach) }
 {
-    let mut power: u32 = 1;
-    let mut count: u32 = 1;
-    while power < reach {
-        power = power + power;
-        count = count + 1;
-    }
-    count
+    reach.next_power_of_two().ilog2() + 1
 }
 
 // At most 2 + 6K looks, and some axis is not level.
@@ -28,6 +22,5 @@ pub fn is_ready(d: ReadyStart, reach: u32) -> bool
 {
     let most = 2 + 6 * count_powers(reach);
     let level = d.level;
-    let all = level.x & (level.y & level.z);
-    (d.looks <= most) & !all
+    (d.looks <= most) & !(level.x & (level.y & level.z))
 }

@@ -1,4 +1,3 @@
 -- The round, pair by pair.
-pub mod Numbers
 pub mod Ways
 pub mod Rounds

@@ -1,46 +1,33 @@
--- The round, pair by pair: a pair that fell is weighed against the best so far, one that kept or that is not asked is passed over, a point outside ends the round.
+-- The round, pair by pair: a pair that fell is weighed against the best so far, one that kept or that takes no part is passed over, a point outside ends the round.
 -- The best of those that fall is the definition's choice, since the triangle's determinant is 1.
-use mathlib.Core.Path.{◌≡◌, refl, sym, ap, ◌∙◌}
-use mathlib.Core.Bool.{Bool, true, false}
-use mathlib.Core.List.{List, [], ◌∷◌}
-use Prim.Native.Nat.{ℕ, ◌+◌, ◌≤◌, ◌<◌}
-use native.Mathlib.Omega.{arith}
-use native.Mathlib.Numerals.{add-one}
-use lib.IntN.{ℤ, pos}
-use lib.ListN.{drop}
-use lib.Seq.{drop-cons}
+use Rattle.std.specs.Prelude.{◌≡◌, refl, Bool, true, false, List, [], ◌∷◌, ℕ, ◌+◌, ◌≤◌, ◌<◌, pos, Option, None, Result, Ok, Err, get_or, drop}
+use Rattle.std.proofs.Common.{sym, ap, ◌∙◌, arith, add-one, drop-cons}
 use Rattle.rules.specs.declared.Vector.{Vector}
 use Rattle.rules.specs.declared.Levels.{Levels}
 use Rattle.rules.specs.declared.Triangle.{Triangle}
 use Rattle.rules.specs.declared.Pair.{Pair}
-use Rattle.rules.specs.declared.Pair.TheVariants.{P21}
-use Rattle.rules.specs.declared.Choice.{Choice}
-use Rattle.rules.specs.declared.Choice.TheVariants.{Nothing}
-use Rattle.rules.specs.Vectors.{◌⊖◌, dot, lay}
+use Rattle.rules.specs.Answers.{Choice}
+use Rattle.rules.specs.Vectors.{dot, lay}
 use Rattle.rules.specs.Asked.{Asked, answered, ◌>>=◌}
-use Rattle.rules.specs.Walk.{pairs, only, keep, from, to, way, takes_part, Probe, falls, falling, round}
+use Rattle.rules.specs.Walk.{pairs, only, keep, way, takes_part, Probe, falls, falling, round}
 use Rattle.laws.specs.Triples.{det_of}
 use Rattle.laws.specs.Sphere.{weight}
 use Rattle.laws.specs.Choosing.{better, best}
 use Rattle.laws.proofs.Choosing.{best-is-choice}
 use Rattle.laws.specs.Tally.{Tally, yes, no, tally, Gives, most_looks, Countable, then-yes, inner-yes, inner-no, made-twice, at_once}
-use Rattle.solid.specs.Grid.{ranks_of}
-use Rattle.falls.specs.declared.Scene.{Scene}
 use Rattle.falls.specs.declared.Falls.{Falls}
-use Rattle.falls.specs.declared.Falls.TheVariants.{Fell, Kept, Stopped as Stops}
-use Rattle.falls.specs.Scene.{probe_of, Ready}
+use Rattle.falls.specs.declared.Falls.TheVariants.{Fell, Kept, Stopped}
+use Rattle.falls.specs.declared.Outside.{Outside}
 use Rattle.falls.specs.Falls.{falls_tally, falls_looks, Fallen}
 use Rattle.choice.specs.declared.Best.{Best}
-use Rattle.choice.specs.Best.{best_of, pair_at, choice_of, none_best, lighter}
+use Rattle.choice.specs.Best.{best_of, choice_of, lighter}
 use Rattle.choice.specs.Sound.{Sound}
 use Rattle.choice.specs.Lighter.{Weighs}
 use Rattle.choice.proofs.Lighter.{prefers}
-use Rattle.round.specs.Corners.{index, corner_at, triangle_in, Ranked, way-laid, weight-laid}
-use Rattle.round.specs.Round.{round_tally, round_looks, Weighed, taking, asks_bit, Skips, weighing, rest, settled, WayAsked, RoundAsked}
 use Rattle.round.specs.declared.Round.{Round}
-use Rattle.round.specs.declared.Round.TheVariants.{Asked as IsAsked, Stopped}
+use Rattle.round.specs.Round.{round_tally, round_looks, Weighed, taking, weighing, rest, WayAsked, RoundAsked}
 
--- ---- what the pair's answer makes of the round, at the best c so far
+-- ---- what the pair's answer makes of the round, at the best so far
 module _ (c : Probe) (m : Triangle) (x : Pair) where
   question : Asked Vector Bool
   question = falls c (lay c.signs (way m x))
@@ -48,7 +35,7 @@ module _ (c : Probe) (m : Triangle) (x : Pair) where
   weighed : Choice → Falls → Tally Vector Choice
   weighed b (Fell k) = yes (better m b x) k
   weighed b (Kept k) = yes b k
-  weighed b (Stops p k) = no p k
+  weighed b (Stopped o) = no o.place o.looks
 
   module _ (b : Choice) (n : ℕ) (ps : List Pair) where
     -- the pairs behind, with f made of those of them that fall
@@ -59,44 +46,29 @@ module _ (c : Probe) (m : Triangle) (x : Pair) where
     unfolding question weighed weighing falling keep best
     rest-is (Fell k) h = (inner-yes _ _ h (pairs-behind k (λ fs. x ∷ fs))).is
     rest-is (Kept k) h = (inner-yes _ _ h (pairs-behind k (λ fs. fs))).is
-    rest-is (Stops p k) h = (inner-no _ _ h).is
-
--- ---- what the code makes of the answer
-module _ (y : ℕ) (k : Best) (b w : Vector) {f : Falls} where
-  pub settled-fell : {n : ℕ} {next d : Best} → f ≡ Fell n → next ≡ best_of y (dot b w) → d ≡ lighter k next → IsAsked d n ≡ settled y k b w f
-  settled-fell e g h = rw (e, h, g)
-
-  pub settled-kept : {n : ℕ} → f ≡ Kept n → IsAsked k n ≡ settled y k b w f
-  settled-kept e = rw e
-
-  pub settled-stopped : {p : Vector} {n : ℕ} → f ≡ Stops p n → Stopped p n ≡ settled y k b w f
-  settled-stopped e = rw e
-
-pub ruleset settling = (settled-fell, settled-kept, settled-stopped)
+    rest-is (Stopped o) h = (inner-no _ _ h).is
 
 -- ---- a pair that takes part, from what the falls question promised to what one pair more promises
-module _ {c : Probe} {m : Triangle} {y : ℕ} {k : Best} {n : ℕ} (b : Vector) {w : Vector} (s : Sound m) (u : y < 6) (o : Weighs m k) (e : w ≡ lay c.signs (way m (pair_at y))) (g : dot b w ≡ weight m (pair_at y)) where
-  way_by : (f : Falls) {r : Round} → Fallen c w n f → round_tally r ≡ weighed c m (pair_at y) (choice_of k.pair) f → round_looks r ≡ falls_looks f → Weighed m r → WayAsked c m (pair_at y) k n r
+module _ {c : Probe} {m : Triangle} {x : Pair} {k : Round} {w : Vector} (e : w ≡ lay c.signs (way m x)) where
+  way_by : (f : Falls) {r : Result Round Outside} → Fallen c w k.looks f → round_tally r ≡ weighed c m x (choice_of k.best) f → round_looks r ≡ falls_looks f → Weighed m r → WayAsked c m x k r
   unfolding question
   way_by f {r} h t l z = record {
-    is = λ ps. ap (rest c m ps) t ∙ rest-is c m (pair_at y) (choice_of k.pair) n ps f (rw (← e) h.gives);
+    is = λ ps. ap (rest c m ps) t ∙ rest-is c m x (choice_of k.best) k.looks ps f (rw (← e) h.gives);
     weighed = z;
     few = omega (arith, h.few, l);
   }
 
-  way-settled : (f : Falls) → Fallen c w n f → WayAsked c m (pair_at y) k n (settled y k b w f)
+  pub way-fell : (l : Vector) {f : Falls} {n : ℕ} {next : Best} {b : Option Best} → Sound m → Weighs m k.best → dot l w ≡ weight m x → Fallen c w k.looks f → f ≡ Fell n → next ≡ best_of x (dot l w) → b ≡ lighter k.best next → WayAsked c m x k (Ok (record { best = b; looks = n }))
   unfolding weighed
-  way-settled (Fell t) h = let r = prefers s u o g refl refl in way_by (Fell t) h (ap (λ (z : Choice). yes z t) r.is) refl r.weighs
-  way-settled (Kept t) h = way_by (Kept t) h refl refl o
-  way-settled (Stops p t) h = way_by (Stops p t) h refl refl tt
+  way-fell l {n = n} s o g h i p q = let r = prefers s x o g p q in way_by (Fell n) (rw i at h) (ap (λ (z : Choice). yes z n) r.is) refl r.weighs
 
--- as the code comes to it
-pub way_asked : {v : Scene} {bytes : List ℕ} {ms : List ℤ} (y : ℕ) {k : Best} {n : ℕ} {f : Falls} {i j : ℕ} {a b w : Vector} {r : Round}
-    → Ready v bytes → Sound (triangle_in v.signs ms) → Ranked (ranks_of v.solid) ms → y < 6 → Weighs (triangle_in v.signs ms) k
-    → i ≡ index (from (pair_at y)) → j ≡ index (to (pair_at y)) → b ≡ corner_at ms j → a ≡ corner_at ms i → w ≡ b ⊖ a
-    → Fallen (probe_of v bytes) w n f → r ≡ settled y k b w f → WayAsked (probe_of v bytes) (triangle_in v.signs ms) (pair_at y) k n r
-way_asked {ms = ms} y {f = f} ready s z u o p q eb ea ew h e =
-    rw e (way-settled _ s u o (rw (ew, ea, eb, p, q) (way-laid ms ready.signed (pair_at y))) (rw (ew, ea, eb, p, q) (weight-laid ms ready.signed (pair_at y))) f h)
+  pub way-kept : {f : Falls} {n : ℕ} → Weighs m k.best → Fallen c w k.looks f → f ≡ Kept n → WayAsked c m x k (Ok (record { best = k.best; looks = n }))
+  unfolding weighed
+  way-kept {n = n} o h i = way_by (Kept n) (rw i at h) refl refl o
+
+  pub way-stopped : {f : Falls} {o : Outside} → Fallen c w k.looks f → f ≡ Stopped o → WayAsked c m x k (Err o)
+  unfolding weighed
+  way-stopped {o = o} h i = way_by (Stopped o) (rw i at h) refl refl tt
 
 -- ---- the whole round
 none_left : (c : Probe) (m : Triangle) (r : Tally Vector Choice) → r ≡ rest c m [] r
@@ -104,53 +76,48 @@ unfolding weighing falling best
 none_left c m (yes b n) = (then-yes _ at_once at_once).is
 none_left c m (no p n) = refl
 
-best-of-all : (c : Probe) (m : Triangle) (ps : List Pair) (n : ℕ) → det_of m ≡ pos 1 → rest c m ps (yes Nothing n) ≡ tally n (round c ps m)
+best-of-all : (c : Probe) (m : Triangle) (ps : List Pair) (n : ℕ) → det_of m ≡ pos 1 → rest c m ps (yes None n) ≡ tally n (round c ps m)
 unfolding weighing round
 best-of-all c m ps n d = ap (λ (g : List Pair → Choice). tally n (falling c m ps >>= λ fs. answered (g fs) [])) (λ i fs. best-is-choice m d fs i)
 
-pairs-from : (i : ℕ) → i < 6 → drop i pairs ≡ pair_at i ∷ drop (i + 1) pairs
-pairs-from i h = rw (add-one, drop-cons pairs i P21 h)
+-- before the pair i: the rest of the round gives what the whole round gives
+module _ (c : Probe) (m : Triangle) (level : Levels) (looks : ℕ) where
+  pub record Asking (i : ℕ) (k : Round) : Type 0 where
+    pub few : k.looks ≤ looks + most_looks i
+    pub weighed : Weighs m k.best
+    pub rest_gives : rest c m (taking level (drop i pairs)) (round_tally (Ok k)) ≡ tally looks (round c (taking level pairs) m)
 
--- before the pair i, for the level axes that `skip` tells: the rest of the round gives what the whole round gives
-module _ (c : Probe) (m : Triangle) (skip looks : ℕ) where
-  pub record Asking (i : ℕ) (k : Best) (n : ℕ) : Type 0 where
-    pub low : i ≤ 6
-    pub few : n ≤ looks + most_looks i
-    pub weighed : Weighs m k
-    pub rest_gives : (level : Levels) → Skips level skip → rest c m (taking level (drop i pairs)) (yes (choice_of k.pair) n) ≡ tally looks (round c (taking level pairs) m)
+module _ {c : Probe} {m : Triangle} {level : Levels} {looks : ℕ} where
+  pub asking-begins : Sound m → Asking c m level looks 0 (record { best = None; looks = looks })
+  asking-begins s = record { few = omega arith; weighed = tt; rest_gives = best-of-all c m (taking level pairs) looks s.unimodular }
 
-module _ {c : Probe} {m : Triangle} {skip looks : ℕ} where
-  pub asking-begins : {k : Best} → Sound m → k ≡ none_best → Asking c m skip looks 0 k looks
-  asking-begins s e = rw e record { low = omega arith; few = omega arith; weighed = record { numbered = omega arith; weighs = refl }; rest_gives = λ level h. best-of-all c m (taking level pairs) looks s.unimodular }
-
-  module _ {i : ℕ} {k : Best} {n : ℕ} (h : Asking c m skip looks i k n) where
-    pub asking-ends : {level : Levels} → Skips level skip → 6 ≤ i → RoundAsked c m level looks (IsAsked k n)
+  module _ {i : ℕ} {k : Round} (h : Asking c m level looks i k) where
+    pub asking-ends : i ≤ 6 → 6 ≤ i → RoundAsked c m level looks (Ok k)
     unfolding only
-    asking-ends {level} s z =
-        let last : i ≡ 6 = omega (arith, h.low) in
-        record { gives = record { is = none_left c m (yes (choice_of k.pair) n) ∙ (rw last at (h.rest_gives level s)) }; weighed = h.weighed; few = omega (arith, h.few, last) }
+    asking-ends l z =
+        let last : i ≡ 6 = omega arith in
+        record { gives = record { is = none_left c m (round_tally (Ok k)) ∙ (rw last at h.rest_gives) }; weighed = h.weighed; few = omega (arith, h.few, last) }
 
-    pub asking-few : Countable 6 looks → i < 6 → Countable 1 n
+    pub asking-few : Countable 6 looks → i < 6 → Countable 1 k.looks
     asking-few e l = omega (arith, h.few)
 
-    module _ (l : i < 6) {b : Bool} (t : b ≡ asks_bit skip i) where
-      -- the pair i and those behind it
-      from-here : (level : Levels) → Skips level skip → takes_part level (pair_at i) ≡ b
-      from-here level s = sym (t ∙ s.bits i l)
+    module _ (d : Pair) (l : i < 6) {b : Bool} (t : b ≡ takes_part level (get_or pairs i d)) where
+      pairs-from : drop i pairs ≡ get_or pairs i d ∷ drop (i + 1) pairs
+      pairs-from = rw (add-one, drop-cons pairs i d l)
 
-      pub asking-passed : {o : Best} {u : ℕ} → b ≡ false → o ≡ k → u ≡ n → Asking c m skip looks (i + 1) o u
+      pub asking-passed : b ≡ false → Asking c m level looks (i + 1) k
       unfolding only keep
-      asking-passed e x z = rw (x, z) record { low = omega arith; few = omega (arith, h.few); weighed = h.weighed; rest_gives = λ level s. rw (pairs-from i l, from-here level s ∙ e) at (h.rest_gives level s) }
+      asking-passed e = record { few = omega (arith, h.few); weighed = h.weighed; rest_gives = rw (pairs-from, sym t ∙ e) at h.rest_gives }
 
-      module _ {r : Round} (e : b ≡ true) (w : WayAsked c m (pair_at i) k n r) where
-        rest-asked : (level : Levels) → Skips level skip → rest c m (taking level (drop (i + 1) pairs)) (round_tally r) ≡ tally looks (round c (taking level pairs) m)
+      module _ {r : Result Round Outside} (e : b ≡ true) (w : WayAsked c m (get_or pairs i d) k r) where
+        rest-asked : rest c m (taking level (drop (i + 1) pairs)) (round_tally r) ≡ tally looks (round c (taking level pairs) m)
         unfolding only keep
-        rest-asked level s = w.is (taking level (drop (i + 1) pairs)) ∙ (rw (pairs-from i l, from-here level s ∙ e) at (h.rest_gives level s))
+        rest-asked = w.is (taking level (drop (i + 1) pairs)) ∙ (rw (pairs-from, sym t ∙ e) at h.rest_gives)
 
-        pub asking-on : {o p : Best} {u v : ℕ} → r ≡ IsAsked o u → p ≡ o → v ≡ u → Asking c m skip looks (i + 1) p v
-        asking-on g x z = rw (x, z) record { low = omega arith; few = omega (arith, h.few, w.few, ap round_looks g); weighed = rw g at w.weighed; rest_gives = λ level s. rw g at (rest-asked level s) }
+        pub asking-on : {o : Round} → r ≡ Ok o → Asking c m level looks (i + 1) o
+        asking-on g = record { few = omega (arith, h.few, w.few, ap round_looks g); weighed = rw g at w.weighed; rest_gives = rw g at rest-asked }
 
-        pub asking-stopped : {level : Levels} {p : Vector} {u : ℕ} → Skips level skip → r ≡ Stopped p u → RoundAsked c m level looks (Stopped p u)
-        asking-stopped {level} s g = record { gives = record { is = rw g at (rest-asked level s) }; weighed = tt; few = omega (arith, h.few, w.few, ap round_looks g) }
+        pub asking-stopped : {o : Outside} → r ≡ Err o → RoundAsked c m level looks (Err o)
+        asking-stopped g = record { gives = record { is = rw g at rest-asked }; weighed = tt; few = omega (arith, h.few, w.few, ap round_looks g) }
 
 pub ruleset asking = (asking-begins, asking-passed, asking-on, asking-stopped, asking-ends)

@@ -1,54 +1,46 @@
--- What a pair names of the array, as the code reads it: sizes, and differences of ranks read back from their bits.
-use mathlib.Core.Path.{◌≡◌, sym, ap, ◌∙◌}
-use mathlib.Core.List.{List}
-use Prim.Native.Nat.{ℕ}
-use lib.Dec.{T, leb, lit≤}
-use lib.IntN.{ℤ, ◌-ℤ◌}
-use mir.Syntax.{w32}
-use mir.Val.{SFits}
-use Rattle.integers.specs.Machine.{machine, fits, value}
-use Rattle.integers.specs.Sizes.{Within, within-is}
-use Rattle.rules.specs.declared.Vector.{Vector}
+-- What a pair's corners have to its way: the difference of a sound triangle's corners is small, is document 01's way laid in, and has its rank; and the product with m_l is the pair's weight.
+use Rattle.std.specs.Prelude.{◌≡◌, List, ℕ, ◌-ℤ◌}
+use Rattle.std.proofs.Common.{◌∙◌, lit≤}
+use Rattle.integers.specs.Machine.{machine, value}
+use Rattle.rules.specs.declared.Axis.{Axis}
 use Rattle.rules.specs.declared.Pair.{Pair}
-use Rattle.rules.specs.Vectors.{◌⊖◌, dot}
-use Rattle.rules.specs.Walk.{Axis, from, to}
-use Rattle.laws.specs.Bounds.{Bounded, bounded-is, bounded-wider, bounded-difference}
+use Rattle.rules.specs.Vectors.{dot, lay}
+use Rattle.rules.specs.Walk.{from, to, way}
+use Rattle.laws.specs.Bounds.{Bounded, bounded-wider, bounded-difference}
+use Rattle.laws.specs.Sphere.{weight}
+use Rattle.solid.specs.Grid.{ranks_of}
+use Rattle.falls.specs.declared.Scene.{Scene}
+use Rattle.falls.specs.Scene.{Ready}
 use Rattle.choice.specs.Numbers.{from_bits}
-use Rattle.round.specs.Corners.{index, corner_at, rank_at, put_at, stepped, Ranked, Small, rank-difference}
+use Rattle.choice.specs.Sound.{Sound}
+use Rattle.round.specs.declared.Corner.{Corner}
+use Rattle.round.specs.Corners.{corner_at, difference, triangle_in, Ranked, Small, small, rank-difference, way-laid, weight-laid}
 
--- a vector of the array, and a difference of two
-pub corner-fits : {ms : List ℤ} (a : Axis) {k : ℕ} {u : Vector} → Small ms → k ≡ index a → u ≡ corner_at ms k → Bounded 2046 u
-corner-fits a h i e = bounded-wider {m = 1023} (bounded-is e (rw i (h.corners a))) (lit≤ tt)
+module _ {v : Scene} {bytes : List ℕ} {ms : List Corner} (ready : Ready v bytes) (s : Sound (triangle_in v.signs ms)) (z : Ranked (ranks_of v.solid) ms) where
+  pub corner-small : (k : Axis) {a : Corner} → a ≡ corner_at ms k → Small a
+  corner-small k e = rw e ((small ms ready s z).corners k)
 
-pub difference-fits : {ms : List ℤ} (a b : Axis) {k l : ℕ} {u v w : Vector} → Small ms → k ≡ index a → l ≡ index b → u ≡ corner_at ms k → v ≡ corner_at ms l → w ≡ u ⊖ v → Bounded 2046 w
-difference-fits a b h i j e f g = bounded-is g (rw (e, f, i, j) (bounded-difference (h.corners a) (h.corners b)))
+  pub corner-fits : (k : Axis) {a : Corner} → a ≡ corner_at ms k → Bounded 10000 a.at
+  corner-fits k e = bounded-wider (corner-small k e).bounded (lit≤ tt)
 
-pub ruleset named = (corner-fits, difference-fits)
+  module _ (x : Pair) {k l : Axis} {a b w : Corner} (i : k ≡ from x) (j : l ≡ to x) (e : a ≡ corner_at ms k) (f : b ≡ corner_at ms l) (g : w ≡ difference b a) where
+    pub is-laid : w.at ≡ lay v.signs (way (triangle_in v.signs ms) x)
+    is-laid = rw (g, f, e, j, i) (way-laid ms ready.signed x)
 
--- two of them, as a call asks for them
-pub both-fit : {n : ℕ} {a b : Vector} → Bounded 2046 a → Bounded 2046 b → T (leb 2046 n) → Bounded n a × Bounded n b
-both-fit h k t = (bounded-wider h (lit≤ t), bounded-wider k (lit≤ t))
+    pub weighs : dot b.at w.at ≡ weight (triangle_in v.signs ms) x
+    weighs = rw (g, f, e, j, i) (weight-laid ms ready.signed x)
 
--- ---- ranks
-module _ {ms : List ℤ} (h : Small ms) (a b : Axis) {k l : ℕ} (i : k ≡ index a) (j : l ≡ index b) where
-  module _ {p q : ℤ} (e : p ≡ rank_at ms k) (f : q ≡ rank_at ms l) where
-    first-rank : Within 69089328 p
-    first-rank = within-is e (rw i (h.ranks a))
+    pub rank-is : from_bits w.rank ≡ dot (ranks_of v.solid) w.at
+    rank-is =
+        let p = (corner-small k e).within in
+        let q = (corner-small l f).within in
+        let read : from_bits (b.rank -ℤ a.rank) ≡ b.rank -ℤ a.rank = value (search machine depth 30 fits 5000) tt in
+        rw g (read ∙ rw (f, e) (rank-difference z l k))
 
-    second-rank : Within 69089328 q
-    second-rank = within-is f (rw j (h.ranks b))
+    pub way-small : Bounded 2046 w.at
+    way-small = rw g (bounded-difference (corner-small l f).bounded (corner-small k e).bounded)
 
-    pub ranks-fit : SFits w32 (from_bits p -ℤ from_bits q)
-    ranks-fit = let x = first-rank in let y = second-rank in fits (search machine depth 30 fits 5000) tt
+    pub way-fits : Bounded 10000 w.at
+    way-fits = bounded-wider way-small (lit≤ tt)
 
-    pub ranks-read : from_bits (from_bits p -ℤ from_bits q) ≡ rank_at ms (index a) -ℤ rank_at ms (index b)
-    ranks-read = let x = first-rank in let y = second-rank in value (search machine depth 30 fits 5000) tt ∙ (λ t. (e ∙ ap (rank_at ms) i) t -ℤ (f ∙ ap (rank_at ms) j) t)
-
-    -- the rank of the difference
-    pub rise-is : {r u v w : Vector} → Ranked r ms → u ≡ corner_at ms k → v ≡ corner_at ms l → w ≡ u ⊖ v → from_bits (from_bits p -ℤ from_bits q) ≡ dot r w
-    rise-is {r} o x y z = ranks-read ∙ rank-difference o a b ∙ sym (ap (dot r) (rw (z, x, y, i, j)))
-
--- ---- a step, as the code makes it
-pub step-made : {ms : List ℤ} (x : Pair) {k l : ℕ} {u v w : Vector} {p q : ℤ} {out : List ℤ} → Small ms → k ≡ index (from x) → l ≡ index (to x)
-    → u ≡ corner_at ms k → v ≡ corner_at ms l → w ≡ u ⊖ v → p ≡ rank_at ms k → q ≡ rank_at ms l → out ≡ put_at ms k w (from_bits (from_bits p -ℤ from_bits q)) → out ≡ stepped ms x
-step-made {ms} x h i j e f g p q o = o ∙ rw (i, g, e, f, i, j, ranks-read h (from x) (to x) i j p q)
+pub ruleset ways = (corner-small, corner-fits, is-laid, weighs, rank-is, way-small, way-fits)

@@ -6,19 +6,11 @@ use Rattle.std.specs.Float.{binary32}
 use Rattle.std.specs.Float.Ieee.{round as rounded}
 use Rattle.rules.specs.declared.Solid.TheVariants.{Wedge as IsWedge}
 use Rattle.rules.specs.declared.Triangle.{Triangle}
-use Rattle.rules.specs.declared.Pick.{Pick}
-use Rattle.rules.specs.declared.Pick.TheVariants.{Accepted, Refused}
+use Rattle.rules.specs.Answers.{Pick, Check, Touch, Line, Display}
+use Rattle.std.specs.Prelude.{Ok as Accepted, Err as Refused, Ok as Ready, Err as CheckRefused, Ok as Guess, Err as TouchRefused, Some as Asks, None as OtherForm, Ok as Lit}
 use Rattle.rules.specs.declared.Levels.{Levels}
 use Rattle.rules.specs.declared.ReadyStart.{ReadyStart}
-use Rattle.rules.specs.declared.Check.{Check}
-use Rattle.rules.specs.declared.Check.TheVariants.{Ready, Refused as CheckRefused}
-use Rattle.rules.specs.declared.Touch.{Touch}
-use Rattle.rules.specs.declared.Touch.TheVariants.{Guess, Refused as TouchRefused}
 use Rattle.rules.specs.declared.Vector.{Vector}
-use Rattle.rules.specs.declared.Line.{Line}
-use Rattle.rules.specs.declared.Line.TheVariants.{Asks, OtherForm}
-use Rattle.rules.specs.declared.Display.{Display}
-use Rattle.rules.specs.declared.Display.TheVariants.{Lit}
 use Rattle.rules.specs.Vectors.{vector, ◌⊕◌, ◌⊖◌, minus, scale, dot, cross, det, sphere, lay, size}
 use Rattle.rules.specs.Solids.{between, permitted_wedge, filled_wedge, in_box, look}
 use Rattle.rules.specs.Asked.{after, ◌>>=◌}
@@ -56,11 +48,11 @@ corners_of (Asks q) = vectors_of (pick_of (IsWedge q.wedge) [] q.p q.frame q.rea
 corners_of OtherForm = none
 
 guess_of : Touch → Result
-guess_of (Guess a) = guessed a.normal a.steps a.looks
+guess_of (Guess g) = let a = g.answer in guessed a.normal a.steps a.looks
 guess_of (TouchRefused r) = refused r.number r.place r.steps r.looks
 
 guess_vectors : Touch → Result
-guess_vectors (Guess a) = vectors a.triangle
+guess_vectors (Guess g) = vectors g.answer.triangle
 guess_vectors (TouchRefused r) = none
 
 touched_by : (Touch → Result) → Line → Result

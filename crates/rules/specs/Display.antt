@@ -3,8 +3,8 @@ use Rattle.std.specs.Prelude.{◌≡◌, Bool, true, false, not, ◌&&◌, ℕ, 
 use Rattle.std.specs.Float.{binary32}
 use Rattle.std.specs.Float.Ieee.{round}
 use Rattle.rules.specs.declared.Light.{Light}
-use Rattle.rules.specs.declared.Display.{Display}
-use Rattle.rules.specs.declared.Display.TheVariants.{Lit, Unlit}
+use Rattle.rules.specs.Answers.{Display, refused_input}
+use Rattle.std.specs.Prelude.{Ok as Lit}
 use Rattle.rules.specs.Solids.{between}
 
 abbrev pub square : ℤ → ℕ
@@ -42,7 +42,7 @@ light x y z =
     record { x = component S x; y = component S y; z = component S z }
 
 unfoldable pub display : ℤ → ℤ → ℤ → Display
-display x y z = elim (permitted_normal x y z) [ true ↦ Lit (light x y z) | false ↦ Unlit 30 ]
+display x y z = elim (permitted_normal x y z) [ true ↦ Lit (light x y z) | false ↦ refused_input 30 ]
 
 pub record DisplayPromise (x y z : ℤ) (r : Display) : Type 0 where
   pub is : r ≡ display x y z

@@ -14,25 +14,21 @@ use Rattle.rules.specs.declared.Triangle.{Triangle}
 use Rattle.rules.specs.declared.Pair.{Pair}
 use Rattle.rules.specs.declared.Pair.TheVariants.{P01, P02, P10, P12, P20, P21}
 use Rattle.rules.specs.declared.Accepted.{Accepted as AcceptedPick}
-use Rattle.rules.specs.declared.Pick.{Pick}
-use Rattle.rules.specs.declared.Pick.TheVariants.{Accepted, Refused}
+use Rattle.rules.specs.Answers.{Pick, Firm}
+use Rattle.std.specs.Prelude.{Ok as Accepted, Err as Refused, Ok as Stands, Err as FirmRefused}
 use Rattle.rules.specs.declared.Bound.{Bound}
-use Rattle.rules.specs.declared.Firm.{Firm}
-use Rattle.rules.specs.declared.Firm.TheVariants.{Stands, Refused as FirmRefused}
+use Rattle.rules.specs.declared.Way.{Way}
+use Rattle.rules.specs.declared.Way.TheVariants.{Sideways as sideways, Along as along, Against as against}
 use Rattle.rules.specs.Vectors.{vector, ◌⊕◌, minus, scale, lay, origin}
 use Rattle.rules.specs.Solids.{between, permitted, look}
 use Rattle.rules.specs.Asked.{Asked, answered, refused, ◌>>=◌, ◌>>◌}
-use Rattle.rules.specs.Walk.{Stop, stop, ensure, signs, powers, Axis, axis0, axis1, axis2, unit, way, level, only, takes_part, Probe, facing}
+use Rattle.rules.specs.declared.Axis.{Axis}
+use Rattle.rules.specs.declared.Axis.TheVariants.{Axis0 as axis0, Axis1 as axis1, Axis2 as axis2}
+use Rattle.rules.specs.Walk.{Stop, stop, ensure, signs, powers, unit, way, level, only, takes_part, Probe, facing}
 use Rattle.rules.specs.Pick.{probe_from, placing, refused_answer}
 use Rattle.rules.specs.Lean.{levels_of, bound_at, measurable}
 
--- ---- the ways of a footing: those of the pairs that take part, and along each level axis and against it
-pub data Way : Type 0 where
-  sideways : Pair → Way
-  along : Axis → Way
-  against : Axis → Way
-
--- in the order in which they are looked at
+-- ---- the ways of a footing: those of the pairs that take part, and along each level axis and against it, in the order in which they are looked at
 abbrev pub all_ways : List Way
 all_ways =
     sideways P01 ∷ sideways P02 ∷ sideways P10 ∷ sideways P12 ∷ sideways P20 ∷ sideways P21
@@ -118,7 +114,10 @@ firm_answer (refused r t) = FirmRefused (refused_answer r (length t))
 unfoldable pub firm_of : Solid → List ℕ → Pick → ℤ → ℤ → Firm
 firm_of solid bytes pick frame reach = firm_answer (firm (permitted solid bytes) (look solid bytes) frame reach pick)
 
--- ---- the promises of the two entry points
+-- ---- the promise of a footing, and as it is for each solid
+pub record FirmPromise (solid : Solid) (bytes : List ℕ) (pick : Pick) (frame reach : ℤ) (r : Firm) : Type 0 where
+  pub is : r ≡ firm_of solid bytes pick frame reach
+
 pub record WedgeFirmPromise (wedge : Wedge) (pick : Pick) (frame reach : ℤ) (r : Firm) : Type 0 where
   pub is : r ≡ firm_of (IsWedge wedge) [] pick frame reach
 

@@ -4,12 +4,8 @@ use Rattle.std.specs.Prelude.{◌≡◌, refl, [], ◌∷◌, map, ℕ, ℤ, pos
 use Rattle.rules.specs.declared.Vector.{Vector}
 use Rattle.rules.specs.declared.Solid.TheVariants.{Wedge as IsWedge}
 use Rattle.rules.specs.declared.Triangle.{Triangle}
-use Rattle.rules.specs.declared.Pick.{Pick}
-use Rattle.rules.specs.declared.Pick.TheVariants.{Accepted, Refused}
-use Rattle.rules.specs.declared.Lean.{Lean}
-use Rattle.rules.specs.declared.Lean.TheVariants.{Known, Unknown}
-use Rattle.rules.specs.declared.Firm.{Firm}
-use Rattle.rules.specs.declared.Firm.TheVariants.{Stands, Refused as FirmRefused}
+use Rattle.rules.specs.Answers.{Pick, Lean, Firm, refused_input}
+use Rattle.std.specs.Prelude.{Ok as Accepted, Err as Refused, Ok as Known, Ok as Stands, Err as FirmRefused}
 use Rattle.rules.specs.Vectors.{vector, ◌⊕◌, ◌⊖◌, minus, scale, dot, lay, origin}
 use Rattle.rules.specs.Solids.{between, permitted_wedge, filled_wedge, in_box, look}
 use Rattle.rules.specs.Asked.{after, ◌>>=◌}
@@ -43,7 +39,7 @@ refused : ℕ → ℕ → ℕ → Vector → ℕ → Lean × Firm
 refused part whole number place looks = (Known (record { part = part; whole = whole }), FirmRefused (record { number = number; place = place; steps = 0; looks = looks }))
 
 unknown : ℕ → Lean × Firm
-unknown number = (Unknown 35, FirmRefused (record { number = number; place = origin; steps = 0; looks = 0 }))
+unknown number = (refused_input 35, FirmRefused (record { number = number; place = origin; steps = 0; looks = 0 }))
 
 at : ℕ → Vector
 at k = vector (pos k) (pos k) (pos k)

@@ -7,11 +7,9 @@ use Rattle.rules.specs.declared.Triangle.{Triangle}
 use Rattle.rules.specs.declared.Pair.{Pair}
 use Rattle.rules.specs.declared.Pair.TheVariants.{P01, P02, P12}
 use Rattle.rules.specs.declared.Accepted.{Accepted as AcceptedPick}
-use Rattle.rules.specs.declared.Pick.{Pick}
-use Rattle.rules.specs.declared.Pick.TheVariants.{Accepted, Refused}
+use Rattle.rules.specs.Answers.{Pick, Lean, refused_input}
+use Rattle.std.specs.Prelude.{Ok as Accepted, Err as Refused, Ok as Known}
 use Rattle.rules.specs.declared.Bound.{Bound}
-use Rattle.rules.specs.declared.Lean.{Lean}
-use Rattle.rules.specs.declared.Lean.TheVariants.{Known, Unknown}
 use Rattle.rules.specs.Vectors.{dot}
 use Rattle.rules.specs.Solids.{between}
 use Rattle.rules.specs.Walk.{powers, all_axes, way, levels, level, all_level, only, takes_part}
@@ -69,8 +67,8 @@ measurable a =
 
 -- at the last power of the reach that the pick was asked with
 unfoldable pub lean_of : Pick → ℤ → Lean
-lean_of (Accepted a) reach = elim (between (pos 1) reach (pos 256) && measurable a) [ true ↦ Known (bound_at (last_power (nat_abs reach)) a) | false ↦ Unknown 35 ]
-lean_of (Refused r) reach = Unknown 35
+lean_of (Accepted a) reach = elim (between (pos 1) reach (pos 256) && measurable a) [ true ↦ Known (bound_at (last_power (nat_abs reach)) a) | false ↦ refused_input 35 ]
+lean_of (Refused r) reach = refused_input 35
 
 -- ---- the promise
 pub record LeanPromise (pick : Pick) (reach : ℤ) (r : Lean) : Type 0 where

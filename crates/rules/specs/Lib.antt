@@ -1,5 +1,7 @@
 -- Documents 01 and 02 as definitions, in document 01's order, and beside them `Lean` and `Firm`, which no document asks for; `Cases`, `Footings` and `Comments` have the worked cases, proved.
 pub mod Vectors
+pub mod Refusals
+pub mod Answers
 pub mod Solids
 pub mod Asked
 pub mod Walk

@@ -1,10 +1,8 @@
 -- Document 01, "P4 stacks", in its order and words, with document 02's comments that touch (2026-02). These are definitions: nothing here is proved.
 use Rattle.std.specs.Prelude.{◌≡◌, Bool, true, false, not, ◌||◌, ◌&&◌, List, [], ◌∷◌, ◌++◌, ℕ, zero, suc, ◌+◌, ◌-◌, ◌*◌, ◌/◌, ◌^◌, leb, ltb, eqb, pos, nat_abs, length, get_or, take, drop}
 use Rattle.rules.specs.declared.Stack.{Stack}
-use Rattle.rules.specs.declared.Reading.{Reading}
-use Rattle.rules.specs.declared.Reading.TheVariants.{Read, Unread}
-use Rattle.rules.specs.declared.Writing.{Writing}
-use Rattle.rules.specs.declared.Writing.TheVariants.{Written, Unwritten}
+use Rattle.rules.specs.Answers.{Reading, Writing, refused_stack}
+use Rattle.std.specs.Prelude.{Ok as Read, Ok as Written}
 use Rattle.rules.specs.Solids.{row_bytes, slice_bytes, stack_bytes, permitted_stack}
 use Rattle.rules.specs.Decimals.{is_digit, decimal}
 
@@ -199,12 +197,12 @@ writing k bytes lent = do
 -- the three sizes
 unfoldable pub read_answer : Judged Contents → Reading
 read_answer (good found) = Read found.stack
-read_answer (wrong number place) = Unread number place
+read_answer (wrong number place) = refused_stack number place
 
 -- the number of bytes written
 unfoldable pub write_answer : Judged (List ℕ) → Writing
 write_answer (good bytes) = Written (length bytes)
-write_answer (wrong number place) = Unwritten number place
+write_answer (wrong number place) = refused_stack number place
 
 -- what is given goes to the front, and bytes behind keep their values; a refusal writes nothing
 unfoldable pub stored : {A : Type 0} → (A → List ℕ) → Judged A → List ℕ → List ℕ

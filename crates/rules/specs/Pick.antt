@@ -11,8 +11,8 @@ use Rattle.rules.specs.declared.Look.TheVariants.{Filled, Empty, Outside}
 use Rattle.rules.specs.declared.Levels.{Levels}
 use Rattle.rules.specs.declared.Accepted.{Accepted as AcceptedPick}
 use Rattle.rules.specs.declared.Refused.{Refused as RefusedPick}
-use Rattle.rules.specs.declared.Pick.{Pick}
-use Rattle.rules.specs.declared.Pick.TheVariants.{Accepted, Refused}
+use Rattle.rules.specs.Answers.{Pick}
+use Rattle.std.specs.Prelude.{Ok as Accepted, Err as Refused}
 use Rattle.rules.specs.Vectors.{◌⊕◌, origin}
 use Rattle.rules.specs.Solids.{between, permitted, look}
 use Rattle.rules.specs.Asked.{Asked, answered, refused, ◌>>=◌, ◌>>◌}
@@ -78,7 +78,10 @@ answer (refused r t) = Refused (refused_answer r (length t))
 unfoldable pub pick_of : Solid → List ℕ → Vector → ℤ → ℤ → Pick
 pick_of solid bytes p frame reach = answer (pick (permitted solid bytes) (look solid bytes) p frame reach)
 
--- ---- the promises of the two entry points
+-- ---- the promise of a pick, and as it is for each solid: a wedge has no bytes
+pub record PickPromise (solid : Solid) (bytes : List ℕ) (p : Vector) (frame reach : ℤ) (r : Pick) : Type 0 where
+  pub is : r ≡ pick_of solid bytes p frame reach
+
 pub record WedgePromise (wedge : Wedge) (p : Vector) (frame reach : ℤ) (r : Pick) : Type 0 where
   pub is : r ≡ pick_of (IsWedge wedge) [] p frame reach
 

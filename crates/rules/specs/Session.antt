@@ -5,12 +5,8 @@ use Rattle.rules.specs.declared.Vector.{Vector}
 use Rattle.rules.specs.declared.Solid.TheVariants.{Wedge as IsWedge}
 use Rattle.rules.specs.declared.Accepted.{Accepted}
 use Rattle.rules.specs.declared.Refused.{Refused}
-use Rattle.rules.specs.declared.Pick.{Pick}
-use Rattle.rules.specs.declared.Pick.TheVariants.{Accepted as IsAccepted, Refused as IsRefused}
-use Rattle.rules.specs.declared.Number.{Number}
-use Rattle.rules.specs.declared.Number.TheVariants.{Whole, NoNumber}
-use Rattle.rules.specs.declared.Line.{Line}
-use Rattle.rules.specs.declared.Line.TheVariants.{Asks, OtherForm}
+use Rattle.rules.specs.Answers.{Pick, Number, Line}
+use Rattle.std.specs.Prelude.{Ok as IsAccepted, Err as IsRefused, Some as Whole, None as NoNumber, Some as Asks, None as OtherForm}
 use Rattle.rules.specs.Vectors.{vector}
 use Rattle.rules.specs.Solids.{between}
 use Rattle.rules.specs.Pick.{pick_of}

@@ -7,10 +7,8 @@ use Rattle.rules.specs.declared.Stack.{Stack}
 use Rattle.rules.specs.declared.Solid.{Solid}
 use Rattle.rules.specs.declared.Solid.TheVariants.{Wedge as IsWedge, Stack as IsStack}
 use Rattle.rules.specs.declared.Look.{Look}
-use Rattle.rules.specs.declared.Pick.{Pick}
-use Rattle.rules.specs.declared.Pick.TheVariants.{Accepted, Refused}
-use Rattle.rules.specs.declared.Touch.{Touch}
-use Rattle.rules.specs.declared.Touch.TheVariants.{Guess, Refused as TouchRefused}
+use Rattle.rules.specs.Answers.{Pick, Touch, guess}
+use Rattle.std.specs.Prelude.{Ok as Accepted, Err as Refused, Err as TouchRefused}
 use Rattle.rules.specs.Solids.{permitted, look}
 use Rattle.rules.specs.Asked.{Asked, ◌>>=◌, ◌>>◌}
 use Rattle.rules.specs.Walk.{Stop, Probe, at_powers, Found, quick_start, to_the_end}
@@ -34,14 +32,17 @@ module _ (permitted : Bool) (look : Vector → Look) (p : Vector) (frame reach :
 
 -- its accepted answer is always marked a guess
 unfoldable pub marked : Pick → Touch
-marked (Accepted a) = Guess a
+marked (Accepted a) = guess a
 marked (Refused r) = TouchRefused r
 
 -- a touch of a solid with its lent bytes
 unfoldable pub touch_of : Solid → List ℕ → Vector → ℤ → ℤ → Touch
 touch_of solid bytes p frame reach = marked (answer (touch (permitted solid bytes) (look solid bytes) p frame reach))
 
--- ---- the promises of the two entry points
+-- ---- the promise of a touch, and as it is for each solid
+pub record TouchPromise (solid : Solid) (bytes : List ℕ) (p : Vector) (frame reach : ℤ) (r : Touch) : Type 0 where
+  pub is : r ≡ touch_of solid bytes p frame reach
+
 pub record WedgeTouchPromise (wedge : Wedge) (p : Vector) (frame reach : ℤ) (r : Touch) : Type 0 where
   pub is : r ≡ touch_of (IsWedge wedge) [] p frame reach
 

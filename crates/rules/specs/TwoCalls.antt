@@ -9,10 +9,8 @@ use Rattle.rules.specs.declared.Solid.TheVariants.{Wedge as IsWedge, Stack as Is
 use Rattle.rules.specs.declared.Look.{Look}
 use Rattle.rules.specs.declared.Levels.{Levels}
 use Rattle.rules.specs.declared.ReadyStart.{ReadyStart}
-use Rattle.rules.specs.declared.Check.{Check}
-use Rattle.rules.specs.declared.Check.TheVariants.{Ready, Refused as CheckRefused}
-use Rattle.rules.specs.declared.Pick.{Pick}
-use Rattle.rules.specs.declared.Pick.TheVariants.{Accepted, Refused}
+use Rattle.rules.specs.Answers.{Check, Pick}
+use Rattle.std.specs.Prelude.{Ok as Ready, Err as CheckRefused, Ok as Accepted, Err as Refused}
 use Rattle.rules.specs.Vectors.{◌⊕◌, origin}
 use Rattle.rules.specs.Solids.{permitted, look}
 use Rattle.rules.specs.Asked.{Asked, answered, refused, ◌>>=◌, ◌>>◌}
@@ -72,7 +70,13 @@ unfoldable pub in_a_row : Solid → List ℕ → ℤ → ℤ → Check → Pick
 in_a_row solid bytes frame reach (Ready d) = walk_of solid bytes d frame reach
 in_a_row solid bytes frame reach (CheckRefused r) = Refused r
 
--- ---- the promises of the four entry points
+-- ---- the promises of a check and of a walk, and as they are for each solid
+pub record CheckPromise (solid : Solid) (bytes : List ℕ) (p : Vector) (frame reach : ℤ) (r : Check) : Type 0 where
+  pub is : r ≡ check_of solid bytes p frame reach
+
+pub record WalkPromise (solid : Solid) (bytes : List ℕ) (d : ReadyStart) (frame reach : ℤ) (r : Pick) : Type 0 where
+  pub is : r ≡ walk_of solid bytes d frame reach
+
 pub record WedgeCheckPromise (wedge : Wedge) (p : Vector) (frame reach : ℤ) (r : Check) : Type 0 where
   pub is : r ≡ check_of (IsWedge wedge) [] p frame reach
 

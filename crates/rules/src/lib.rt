@@ -58,6 +58,13 @@ pub struct Triangle {
     pub m2: Vector,
 }
 
+#[derive(Clone, Copy)]
+pub enum Axis {
+    Axis0,
+    Axis1,
+    Axis2,
+}
+
 // The pair (k, l).
 #[derive(Clone, Copy)]
 pub enum Pair {
@@ -69,10 +76,34 @@ pub enum Pair {
     P21,
 }
 
+pub type Choice = Option<Pair>;
+
+// ---- refusals
+
+// By their numbers.
 #[derive(Clone, Copy)]
-pub enum Choice {
-    Nothing,
-    Chosen(Pair),
+pub enum Refusal {
+    Reach = 1,
+    Frame = 2,
+    Solid = 3,
+    Place = 4,
+    Start = 5,
+    Apex = 6,
+    Axis = 7,
+    Edge = 8,
+    Steps = 9,
+    Sum = 10,
+    Corner = 11,
+    Ready = 13,
+    Magic = 21,
+    Header = 22,
+    Sides = 23,
+    OtherSides = 24,
+    Rows = 25,
+    Images = 26,
+    Room = 27,
+    Normal = 30,
+    Measure = 35,
 }
 
 // ---- the pick's answer
@@ -94,11 +125,13 @@ pub struct Refused {
     pub looks: u32,
 }
 
+// A refusal of what has no place and no counts.
 #[derive(Clone, Copy)]
-pub enum Pick {
-    Accepted(Accepted),
-    Refused(Refused),
+pub struct RefusedInput {
+    pub number: u32,
 }
+
+pub type Pick = Result<Accepted, Refused>;
 
 // ---- the start check's answer: a ready start, from which a walk goes on
 
@@ -110,19 +143,16 @@ pub struct ReadyStart {
     pub looks: u32,
 }
 
-#[derive(Clone, Copy)]
-pub enum Check {
-    Ready(ReadyStart),
-    Refused(Refused),
-}
+pub type Check = Result<ReadyStart, Refused>;
 
 // ---- the quick touch's answer: what it accepts is always a guess
 
 #[derive(Clone, Copy)]
-pub enum Touch {
-    Guess(Accepted),
-    Refused(Refused),
+pub struct Guess {
+    pub answer: Accepted,
 }
+
+pub type Touch = Result<Guess, Refused>;
 
 // ---- how far an accepted normal may lean, and how firm its footing is
 
@@ -133,11 +163,14 @@ pub struct Bound {
     pub whole: u64,
 }
 
-// A refusal has its number.
+pub type Lean = Result<Bound, RefusedInput>;
+
+// What a footing looks along: a pair's way, and along each level axis and against it.
 #[derive(Clone, Copy)]
-pub enum Lean {
-    Known(Bound),
-    Unknown(u32),
+pub enum Way {
+    Sideways(Pair),
+    Along(Axis),
+    Against(Axis),
 }
 
 // Firm to the power, 0 if not at all.
@@ -148,11 +181,7 @@ pub struct Footing {
     pub bound: Bound,
 }
 
-#[derive(Clone, Copy)]
-pub enum Firm {
-    Stands(Footing),
-    Refused(Refused),
-}
+pub type Firm = Result<Footing, Refused>;
 
 // ---- the display normal's answer
 
@@ -164,34 +193,22 @@ pub struct Light {
     pub z: f32,
 }
 
+pub type Display = Result<Light, RefusedInput>;
+
+// ---- the answers of P4's reader and writer
+
+// A refusal with its number and the number returned.
 #[derive(Clone, Copy)]
-pub enum Display {
-    Lit(Light),
-    Unlit(u32),
+pub struct RefusedStack {
+    pub number: u32,
+    pub value: usize,
 }
 
-// ---- the answers of P4's reader and writer; a refusal has its number and the number returned
+pub type Reading = Result<Stack, RefusedStack>;
 
-#[derive(Clone, Copy)]
-pub enum Reading {
-    Read(Stack),
-    Unread(u32, usize),
-}
-
-#[derive(Clone, Copy)]
-pub enum Writing {
-    Written(usize),
-    Unwritten(u32, usize),
-}
+pub type Writing = Result<usize, RefusedStack>;
 
 // ---- the session's lines
-
-// What a part of a line says.
-#[derive(Clone, Copy)]
-pub enum Number {
-    Whole(i32),
-    NoNumber,
-}
 
 #[derive(Clone, Copy)]
 pub struct Question {
@@ -199,10 +216,4 @@ pub struct Question {
     pub p: Vector,
     pub frame: i32,
     pub reach: i32,
-}
-
-#[derive(Clone, Copy)]
-pub enum Line {
-    Asks(Question),
-    OtherForm,
 }

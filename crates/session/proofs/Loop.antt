@@ -1,137 +1,116 @@
 -- The loop of `put_replies`: the replies to the lines that are left, laid over what is written, give the whole.
-use mathlib.Core.Path.{◌≡◌, refl, sym, ap, ◌∙◌}
+use mathlib.Core.Path.{◌≡◌, refl, sym, ap, subst, ◌∙◌}
+use mathlib.Core.Bool.{Bool, true, false}
 use mathlib.Core.Logic.{◌≢◌}
 use mathlib.Core.List.{List, [], ◌∷◌, ◌++◌}
-use Prim.Native.Nat.{ℕ, ◌+◌, ◌-◌, ◌*◌, ◌≤◌, ◌<◌}
-use native.Mathlib.Nat.{le_refl}
+use Prim.Native.Nat.{ℕ, ◌+◌, ◌-◌, ◌*◌, ◌≤◌, ◌<◌, min}
 use native.Mathlib.Omega.{arith}
-use lib.ListN.{length, drop, length-append, length-take, length-drop, drop_of_length-le}
-use lib.Seq.{sets}
+use lib.Dec.{eqb, ltb}
+use lib.ListN.{length, take, drop, length-append, length-take, length-drop, drop_of_length-le}
+use lib.Seq.{sets, take_all}
+use borrow.Author.Tests.{ltb-true, ltb-false}
+use Rattle.std.proofs.lemmas.Bool.{eqb-true, eqb-false}
 use Rattle.rules.specs.Session.{parts, if_not_empty, lines, question, reply, replies}
-use Rattle.text.specs.Puts.{sets-append, put-length}
-use Rattle.line.specs.Reading.{stretch, PartEnds}
+use Rattle.text.specs.declared.Writer.{Writer}
+use Rattle.text.specs.Puts.{sets-append}
+use Rattle.line.specs.Reading.{PartEnds}
 use Rattle.answer.specs.Wrote.{Wrote}
-use Rattle.session.specs.Printing.{ReplyRoom, Replied, Enough}
+use Rattle.session.specs.Printing.{Replied}
 
-pub record Replying (first text out : List ℕ) (at from : ℕ) : Type 0 where
-  pub same : length out ≡ length first
-  pub room : at + 5 * (length text - from) ≤ 5 * length text
-  pub rest : sets out at (replies (lines (drop from text))) ≡ sets first 0 (replies (lines text))
-  pub total : at + length (replies (lines (drop from text))) ≡ length (replies (lines text))
+pub record Replying (first : Writer) (text : List ℕ) (out : Writer) (rest : List ℕ) : Type 0 where
+  pub kept : length out.out.now ≡ length first.out.now
+  pub lent : out.out.ghost_name ≡ first.out.ghost_name
+  pub room : out.at + 5 * length rest ≤ first.at + 5 * length text
+  pub same : sets out.out.now out.at (replies (lines rest)) ≡ sets first.out.now first.at (replies (lines text))
+  pub total : out.at + length (replies (lines rest)) ≡ first.at + length (replies (lines text))
 
-replying-starts : {first text : List ℕ} → Replying first text first 0 0
-replying-starts = record { same = refl; room = omega arith; rest = refl; total = omega arith }
+-- ---- the next line, up to a LF or up to the end, and the text behind it
+record Next (text line behind : List ℕ) : Type 0 where
+  split : lines text ≡ line ∷ lines behind
+  forward : length behind < length text
+  covers : length line + length behind ≤ length text
 
--- ---- the next line, up to a LF or up to the end, and where the text goes on behind it
-record Next (text : List ℕ) (from : ℕ) (line : List ℕ) (behind : ℕ) : Type 0 where
-  split : lines (drop from text) ≡ line ∷ lines (drop behind text)
-  forward : from < behind
-  within : behind ≤ length text
-  covers : length line ≤ behind - from
+not-empty : (line : List ℕ) → 1 ≤ length line → if_not_empty line ≡ line ∷ []
+not-empty [] h = absurd (omega arith)
+not-empty (b ∷ more) h = refl
 
-kept : (line : List ℕ) → 1 ≤ length line → if_not_empty line ≡ line ∷ []
-kept [] h = absurd (omega arith)
-kept (b ∷ more) h = refl
-
-no_lines : (text : List ℕ) (from : ℕ) → length text ≤ from → lines (drop from text) ≡ []
+next-line : {text : List ℕ} {end : ℕ} → 1 ≤ length text → PartEnds text 0 10 end → Next text (take end text) (drop (min (length text) (end + 1)) text)
 unfolding parts
-no_lines text from h = ap (parts if_not_empty 10 []) (drop_of_length-le text h)
+next-line {text} {end} some F = by (ltb end (length text)) refl
+  where
+    begun : take (end - 0) (drop 0 text) ≡ take end text
+    begun = ap (λ (n : ℕ). take n text) (omega arith)
 
-long : (text : List ℕ) (from end : ℕ) → end ≤ length text → length (stretch text from end) ≡ end - from
-long text from end h = simp (length-take, length-drop) (omega arith)
+    long : length (take end text) ≡ min end (length text)
+    long = length-take end text
 
-module _ {text : List ℕ} {from end : ℕ} (F : PartEnds text from 10 end) where
-  to-mark : end < length text → Next text from (stretch text from end) (end + 1)
-  to-mark h =
-      let g = F.from in
-      let n = long text from end F.within in
-      record { split = F.at_mark h if_not_empty; forward = omega arith; within = omega arith; covers = omega arith }
+    by : (t : Bool) → ltb end (length text) ≡ t → Next text (take end text) (drop (min (length text) (end + 1)) text)
+    by true e =
+        let h = ltb-true end (length text) e in
+        let cut : end + 1 ≡ min (length text) (end + 1) = omega arith in
+        let l = length-drop (min (length text) (end + 1)) text in
+        let n = long in
+        record {
+          split =
+              F.at_mark h if_not_empty
+              ∙ ap (λ (p : List ℕ). p ∷ lines (drop (end + 1) text)) begun
+              ∙ ap (λ (n : ℕ). take end text ∷ lines (drop n text)) cut;
+          forward = omega arith;
+          covers = omega arith;
+        }
+    by false e =
+        let h = ltb-false end (length text) e in
+        let none : drop (min (length text) (end + 1)) text ≡ [] = drop_of_length-le text (omega arith) in
+        let l = length-drop (min (length text) (end + 1)) text in
+        let n = long in
+        let w = F.within in
+        record {
+          split =
+              F.at-end h if_not_empty
+              ∙ ap if_not_empty begun
+              ∙ not-empty (take end text) (omega arith)
+              ∙ ap (λ (t : List ℕ). take end text ∷ lines t) (sym none);
+          forward = omega arith;
+          covers = omega arith;
+        }
 
-  -- a last line without LF counts if not empty
-  to_end : length text ≤ end → from < length text → Next text from (stretch text from (length text)) (length text)
-  to_end h k =
-      let w = F.within in
-      let e : end ≡ length text = omega arith in
-      let n = long text from (length text) (le_refl (length text)) in
-      record {
-        split =
-            F.at-end h if_not_empty
-            ∙ ap (λ (z : ℕ). if_not_empty (stretch text from z)) e
-            ∙ kept (stretch text from (length text)) (omega arith)
-            ∙ ap (λ (ls : List (List ℕ)). stretch text from (length text) ∷ ls) (sym (no_lines text (length text) (le_refl (length text))));
-        forward = k;
-        within = le_refl (length text);
-        covers = omega arith;
-      }
+module _ {first out : Writer} {text rest : List ℕ} {end : ℕ} (R : Replying first text out rest) {t : Bool} (e : t ≡ eqb (length rest) 0) (not : t ≡ false) (F : PartEnds rest 0 10 end) where
+  next : Next rest (take end rest) (drop (min (length rest) (end + 1)) rest)
+  next = let some : length rest ≢ 0 = eqb-false (length rest) 0 (sym e ∙ not) in next-line (omega arith) F
 
-module _ {first text out line : List ℕ} {at from behind : ℕ} (R : Replying first text out at from) (N : Next text from line behind) where
-  room_for : Enough first text → ReplyRoom out at line
-  room_for f =
-      let a = N.forward in
-      let b = N.within in
-      let c = N.covers in
-      let d = f.short in
-      let e = f.room in
-      let r = R.room in
-      let s = R.same in
-      record { short = omega arith; space = omega arith }
-
-  onward : {after : List ℕ} {next : ℕ} → Replied out at line after next → Replying first text after next behind
+  pub replying-more : {after : Writer} {behind : ℕ} → behind ≡ min (length rest) (end + 1) → Replied out (take end rest) after → Replying first text after (take (length rest - behind) (drop behind rest))
   unfolding replies
-  onward {after} {next} P =
-      let more = replies (lines (drop behind text)) in
+  replying-more {after} {behind} cut P =
+      let N = next in
+      let line = take end rest in
+      let last = drop (min (length rest) (end + 1)) rest in
       let W = P.wrote in
-      let a = N.forward in
-      let b = N.within in
-      let c = N.covers in
-      let r = R.room in
-      let p = W.put.past in
-      let few = W.few in
-      let split : replies (lines (drop from text)) ≡ reply (question line) ++ more = ap replies N.split in
-      record {
-        same = put-length W.put ∙ R.same;
-        room = omega arith;
-        rest = (λ i. sets (W.put.is i) (p i) more) ∙ sym (sets-append out at (reply (question line)) more) ∙ ap (sets out at) (sym split) ∙ R.rest;
-        total = let t = R.total in let s = ap length split in let l = length-append (reply (question line)) more in omega arith;
-      }
+      let split : replies (lines rest) ≡ reply (question line) ++ replies (lines last) = ap replies N.split in
+      let all : last ≡ take (length rest - behind) (drop behind rest) =
+      ap (λ (n : ℕ). drop n rest) (sym cut) ∙ sym (take_all (length rest - behind) (drop behind rest) (simp length-drop (omega arith))) in
+      subst (Replying first text after) all (record {
+        kept = W.kept ∙ R.kept;
+        lent = W.put.lent ∙ R.lent;
+        room = let a = N.forward in let c = N.covers in let r = R.room in let p = W.put.past in let few = W.few in omega arith;
+        same = (λ i. sets (W.put.is i) (W.put.past i) (replies (lines last))) ∙ sym (sets-append out.out.now out.at (reply (question line)) (replies (lines last))) ∙ ap (sets out.out.now out.at) (sym split) ∙ R.same;
+        total = let t = R.total in let p = W.put.past in let s = ap length split in let l = length-append (reply (question line)) (replies (lines last)) in omega arith;
+      })
 
--- ---- the invariant: where the next line ends is known too
-pub record AtLine (first text out : List ℕ) (at from end : ℕ) : Type 0 where
-  pub replying : Replying first text out at from
-  pub line-ends : PartEnds text from 10 end
+no_lines : (rest : List ℕ) → length rest ≡ 0 → lines rest ≡ []
+unfolding parts
+no_lines [] z = refl
+no_lines (b ∷ more) z = absurd (omega arith)
 
-replying-ends : {first text out : List ℕ} {at from : ℕ} → Replying first text out at from → length text ≤ from → Wrote (5 * length text) first 0 (replies (lines text)) out at
-unfolding replies
-replying-ends {text} {out} {at} {from} R h =
-    let none : replies (lines (drop from text)) ≡ [] = ap replies (no_lines text from h) in
+pub replying-ends : {first out : Writer} {text rest : List ℕ} {t : Bool} → Replying first text out rest → t ≡ eqb (length rest) 0 → t ≡ true → Wrote (5 * length text) first (replies (lines text)) out
+unfolding replies parts
+replying-ends {out} {rest} R e over =
+    let z = eqb-true (length rest) 0 (sym e ∙ over) in
+    let none : replies (lines rest) ≡ [] = ap replies (no_lines rest z) in
     let t = R.total in
-    let z = ap length none in
+    let n = ap length none in
     let r = R.room in
     record {
-      put = record { is = ap (sets out at) (sym none) ∙ R.rest; past = omega arith };
+      put = record { is = ap (sets out.out.now out.at) (sym none) ∙ R.same; past = omega arith; lent = R.lent };
+      kept = R.kept;
       few = omega arith;
     }
-
-pub at-line-starts : {out text : List ℕ} {end : ℕ} → PartEnds text 0 10 end → AtLine out text out 0 0 end
-at-line-starts F = record { replying = replying-starts; line-ends = F }
-
-module _ {first text out : List ℕ} {at from end : ℕ} (A : AtLine first text out at from end) where
-  pub inner_room : end < length text → Enough first text → ReplyRoom out at (stretch text from end)
-  inner_room h = room_for A.replying (to-mark A.line-ends h)
-
-  pub at-line-more : {after : List ℕ} {next after-end : ℕ} → end < length text → Replied out at (stretch text from end) after next → PartEnds text (end + 1) 10 after-end
-      → AtLine first text after next (end + 1) after-end
-  at-line-more h P F = record { replying = onward A.replying (to-mark A.line-ends h) P; line-ends = F }
-
-  pub ends-empty : from ≡ length text → Wrote (5 * length text) first 0 (replies (lines text)) out at
-  ends-empty k = replying-ends A.replying (omega arith)
-
-  module _ (h : length text ≤ end) (k : from ≢ length text) where
-    last : Next text from (stretch text from (length text)) (length text)
-    last = let f = A.line-ends.from in let w = A.line-ends.within in to_end A.line-ends h (omega arith)
-
-    pub last-room : Enough first text → ReplyRoom out at (stretch text from (length text))
-    last-room = room_for A.replying last
-
-    pub ends_last : {after : List ℕ} {next : ℕ} → Replied out at (stretch text from (length text)) after next → Wrote (5 * length text) first 0 (replies (lines text)) after next
-    ends_last P = replying-ends (onward A.replying last P) (le_refl (length text))

@@ -2,11 +2,9 @@
 -- every number that is read makes the rest lighter by two.
 use Rattle.std.specs.Prelude.{◌≡◌, refl, Bool, true, false, List, [], ◌∷◌, ◌++◌, ℕ, suc, ◌+◌, ◌≤◌, eqb, ℤ, length}
 use Rattle.std.proofs.Common.{ap, ◌∙◌, zero-add, arith, length-append}
-use Rattle.rules.specs.declared.Number.{Number}
-use Rattle.rules.specs.declared.Number.TheVariants.{Whole, NoNumber}
+use Rattle.rules.specs.Answers.{Number, Line}
+use Rattle.std.specs.Prelude.{Some as Whole, None as NoNumber, Some as Asks, None as OtherForm}
 use Rattle.rules.specs.declared.Question.{Question}
-use Rattle.rules.specs.declared.Line.{Line}
-use Rattle.rules.specs.declared.Line.TheVariants.{Asks, OtherForm}
 use Rattle.rules.specs.Session.{parts, always, few_digits, signed, number, if_whole, next, question}
 
 weigh : List (List ℕ) → ℕ

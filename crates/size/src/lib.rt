@@ -6,9 +6,5 @@ ghost use Rattle.std.specs.Prelude.{◌≡◌, nat_abs};
 pub fn size_of(z: i32) -> u32
     ensures { result ≡ nat_abs z }
 {
-    if z < 0 {
-        let opposite = 0 - (z as i64);
-        return opposite as u32;
-    }
-    z as u32
+    z.unsigned_abs()
 }

@@ -12,11 +12,13 @@ use Rattle.rules.specs.declared.Wedge.{Wedge}
 use Rattle.rules.specs.declared.Levels.{Levels}
 use Rattle.rules.specs.declared.Pair.{Pair}
 use Rattle.rules.specs.declared.Accepted.{Accepted as AcceptedPick}
-use Rattle.rules.specs.declared.Pick.{Pick}
-use Rattle.rules.specs.declared.Pick.TheVariants.{Accepted, Refused}
+use Rattle.rules.specs.Answers.{Pick}
+use Rattle.std.specs.Prelude.{Ok as Accepted, Err as Refused}
 use Rattle.rules.specs.Vectors.{dot, size}
 use Rattle.rules.specs.Solids.{between}
-use Rattle.rules.specs.Walk.{Axis, axis0, axis1, axis2, first, second, way, levels, keep, only, remaining}
+use Rattle.rules.specs.declared.Axis.{Axis}
+use Rattle.rules.specs.declared.Axis.TheVariants.{Axis0 as axis0, Axis1 as axis1, Axis2 as axis2}
+use Rattle.rules.specs.Walk.{first, second, way, levels, keep, only, remaining}
 use Rattle.rules.specs.Lean.{is_zero, levels_of}
 use Rattle.laws.specs.Parts.{part, part_of, parts-by, dot-difference}
 use Rattle.laws.specs.Triples.{All, all_first, all-second}

@@ -13,7 +13,9 @@ use Rattle.rules.specs.declared.Levels.{Levels}
 use Rattle.rules.specs.declared.Triangle.{Triangle}
 use Rattle.rules.specs.Vectors.{minus, dot, cross, det, lay, size}
 use Rattle.rules.specs.Solids.{between, permitted, look}
-use Rattle.rules.specs.Walk.{Stop, stop, powers, Axis, axis0, axis1, axis2, unit, units, pairs, level, all_level, only, remaining, takes_part, levelled, normal, Probe, at_powers, axes, rounds, found}
+use Rattle.rules.specs.declared.Axis.{Axis}
+use Rattle.rules.specs.declared.Axis.TheVariants.{Axis0 as axis0, Axis1 as axis1, Axis2 as axis2}
+use Rattle.rules.specs.Walk.{Stop, stop, powers, unit, units, pairs, level, all_level, only, remaining, takes_part, levelled, normal, Probe, at_powers, axes, rounds, found}
 use Rattle.rules.specs.Pick.{is_inside, pick}
 use Rattle.rules.specs.Lean.{is_zero, levels_of}
 use Rattle.laws.specs.Tests.{is_true, is_false, is-not, not-less}

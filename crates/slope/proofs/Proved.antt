@@ -6,11 +6,12 @@ use Rattle.std.proofs.Math.Nat as NatL
 use Rattle.rules.specs.declared.Vector.{Vector}
 use Rattle.rules.specs.declared.Triangle.{Triangle}
 use Rattle.rules.specs.declared.Accepted.{Accepted as AcceptedPick}
-use Rattle.rules.specs.declared.Pick.{Pick}
-use Rattle.rules.specs.declared.Pick.TheVariants.{Accepted, Refused}
+use Rattle.rules.specs.Answers.{Pick}
+use Rattle.std.specs.Prelude.{Ok as Accepted, Err as Refused}
 use Rattle.rules.specs.Vectors.{dot, lay, size}
 use Rattle.rules.specs.Solids.{permitted, look}
-use Rattle.rules.specs.Walk.{signs, Axis, unit, units, vector_of, level, normal, levelled, Probe, Found, laid, found}
+use Rattle.rules.specs.declared.Axis.{Axis}
+use Rattle.rules.specs.Walk.{signs, unit, units, vector_of, level, normal, levelled, Probe, Found, laid, found}
 use Rattle.rules.specs.Pick.{pick, pick_of}
 use Rattle.rules.specs.Lean.{levels_of}
 use Rattle.laws.specs.Triples.{det_of}

@@ -5,10 +5,9 @@ use Rattle.rules.specs.declared.Vector.{Vector}
 use Rattle.rules.specs.declared.Wedge.{Wedge}
 use Rattle.rules.specs.declared.Solid.{Solid}
 use Rattle.rules.specs.declared.ReadyStart.{ReadyStart}
-use Rattle.rules.specs.declared.Check.{Check}
+use Rattle.rules.specs.Answers.{Check, Pick}
+use Rattle.std.specs.Prelude.{Ok as Accepted}
 use Rattle.rules.specs.declared.Accepted.{Accepted as AcceptedPick}
-use Rattle.rules.specs.declared.Pick.{Pick}
-use Rattle.rules.specs.declared.Pick.TheVariants.{Accepted}
 use Rattle.rules.specs.Pick.{pick_of}
 use Rattle.rules.specs.TwoCalls.{check_of, walk_of, in_a_row}
 use Rattle.laws.proofs.TwoCalls.{row}

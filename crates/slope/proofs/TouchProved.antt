@@ -15,12 +15,13 @@ use Rattle.rules.specs.declared.Levels.{Levels}
 use Rattle.rules.specs.declared.Triangle.{Triangle}
 use Rattle.rules.specs.declared.Accepted.{Accepted as AcceptedPick}
 use Rattle.rules.specs.declared.Refused.{Refused as RefusedPick}
-use Rattle.rules.specs.declared.Pick.{Pick}
-use Rattle.rules.specs.declared.Touch.{Touch}
-use Rattle.rules.specs.declared.Touch.TheVariants.{Guess, Refused as TouchRefused}
+use Rattle.rules.specs.Answers.{Pick, Touch, guess}
+use Rattle.std.specs.Prelude.{Ok as Guess, Err as TouchRefused}
 use Rattle.rules.specs.Vectors.{minus, dot, lay, size}
 use Rattle.rules.specs.Solids.{permitted, look}
-use Rattle.rules.specs.Walk.{Stop, stop, Axis, axis0, axis1, axis2, unit, units, pairs, level, none_level, only, remaining, takes_part, levelled, normal, Probe, Found, laid, corner, all_corners, rounds, found}
+use Rattle.rules.specs.declared.Axis.{Axis}
+use Rattle.rules.specs.declared.Axis.TheVariants.{Axis0 as axis0, Axis1 as axis1, Axis2 as axis2}
+use Rattle.rules.specs.Walk.{Stop, stop, unit, units, pairs, level, none_level, only, remaining, takes_part, levelled, normal, Probe, Found, laid, corner, all_corners, rounds, found}
 use Rattle.rules.specs.Pick.{is_inside}
 use Rattle.rules.specs.Touch.{touch, touch_of}
 use Rattle.rules.specs.Lean.{is_zero, levels_of}
@@ -180,7 +181,7 @@ module _ (n : Vector) (t : ℤ) (i : Inputs) (o : OnLevel n t i) where
   said = marked-says _ _ (touch (permitted i.solid i.bytes) (look i.solid i.bytes) i.start i.frame i.reach) (touch-by-rule _ _ _ _ _ slope-touch)
 
   -- ---- what is wanted
-  guess-whole : (a : AcceptedPick) → touch_at i ≡ Guess a → found_of a ≡ found (near_at i) (levels_of n) (ideal_of (signs_of i) n)
+  guess-whole : (a : AcceptedPick) → touch_at i ≡ guess a → found_of a ≡ found (near_at i) (levels_of n) (ideal_of (signs_of i) n)
   guess-whole a e = (subst (λ (x : Touch). Said (unmarked x)) e said).1.1
 
   no_zero : none_level ≡ v → NoZero n
@@ -199,7 +200,8 @@ module _ (n : Vector) (t : ℤ) (i : Inputs) (o : OnLevel n t i) where
   one-touch = go (touch_at i) refl said
     where
       go : (x : Touch) → touch_at i ≡ x → Said (unmarked x) → TouchedAs n i x
-      go (Guess a) e h =
+      go (Guess g) e h =
+          let a = g.answer in
           let triangle : a.triangle ≡ laid (signs_of i) (ideal_of (signs_of i) n).0 = ap (λ (f : Found). f.triangle) h.1.1 in
           let steps : a.steps ≡ (ideal_of (signs_of i) n).1 = ap (λ (f : Found). f.steps) h.1.1 in
           record {
@@ -248,7 +250,7 @@ one-frame n t u i j o p none =
     positive : {s : Vector} → Signs s → NonNegative (lay s n) → Positive (lay s n)
     positive {s} g h = parts-by (λ z. pos 1 ≤ℤ z) (lay s n) (λ k. lay-part-high s n g h k (not-zero (part k n) (none k)))
 
-no-zero-guess : (n : Vector) (t : ℤ) (i : Inputs) → OnLevel n t i → (a : AcceptedPick) → touch_at i ≡ Guess a → NoZero n
+no-zero-guess : (n : Vector) (t : ℤ) (i : Inputs) → OnLevel n t i → (a : AcceptedPick) → touch_at i ≡ guess a → NoZero n
 no-zero-guess n t i o a e = (subst (TouchedAs n i) e (one-touch n t i o)).no_zero
 
 pub quick-touch : QuickTouch

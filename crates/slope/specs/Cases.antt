@@ -16,8 +16,8 @@ use Rattle.rules.specs.declared.Look.TheVariants.{Filled, Empty}
 use Rattle.rules.specs.declared.Triangle.{Triangle}
 use Rattle.rules.specs.declared.Accepted.{Accepted as AcceptedPick}
 use Rattle.rules.specs.declared.Refused.{Refused as RefusedPick}
-use Rattle.rules.specs.declared.Pick.{Pick}
-use Rattle.rules.specs.declared.Pick.TheVariants.{Accepted, Refused}
+use Rattle.rules.specs.Answers.{Pick}
+use Rattle.std.specs.Prelude.{Ok as Accepted, Err as Refused}
 use Rattle.rules.specs.Vectors.{vector, ◌⊕◌, ◌⊖◌, minus, scale, dot, cross, det, sphere, lay, size, origin, unit0, unit2}
 use Rattle.rules.specs.Solids.{between, permitted_wedge, filled_wedge, box, in_box, filled, look, row_bytes, slice_bytes, stack_bytes, permitted_stack, voxel, filled_stack}
 use Rattle.rules.specs.Asked.{after, ◌>>=◌}

@@ -10,11 +10,12 @@ use Rattle.rules.specs.declared.Solid.TheVariants.{Wedge as IsWedge, Stack as Is
 use Rattle.rules.specs.declared.Look.TheVariants.{Filled, Empty}
 use Rattle.rules.specs.declared.Accepted.{Accepted as AcceptedPick}
 use Rattle.rules.specs.declared.Refused.{Refused as RefusedPick}
-use Rattle.rules.specs.declared.Pick.{Pick}
-use Rattle.rules.specs.declared.Pick.TheVariants.{Accepted, Refused}
+use Rattle.rules.specs.Answers.{Pick}
+use Rattle.std.specs.Prelude.{Ok as Accepted, Err as Refused}
 use Rattle.rules.specs.Vectors.{vector, ◌⊕◌, scale, dot, lay, size, origin}
 use Rattle.rules.specs.Solids.{between, permitted, box, in_box, filled, look}
-use Rattle.rules.specs.Walk.{signs, powers, Probe, Axis, unit, vector_of, level, remaining}
+use Rattle.rules.specs.declared.Axis.{Axis}
+use Rattle.rules.specs.Walk.{signs, powers, Probe, unit, vector_of, level, remaining}
 use Rattle.rules.specs.Pick.{probe, pick_of, WedgePromise, StackPromise}
 use Rattle.rules.specs.Lean.{levels_of}
 use Rattle.laws.specs.Tests.{Each}

@@ -11,7 +11,9 @@ use Rattle.rules.specs.declared.Triangle.{Triangle}
 use Rattle.rules.specs.declared.Pair.{Pair}
 use Rattle.rules.specs.declared.Pair.TheVariants.{P01, P02, P10, P12, P20, P21}
 use Rattle.rules.specs.Vectors.{scale, dot}
-use Rattle.rules.specs.Walk.{Axis, axis0, axis1, axis2, vector_of, from, to, first, second, level, takes_part, levelled, normal}
+use Rattle.rules.specs.declared.Axis.{Axis}
+use Rattle.rules.specs.declared.Axis.TheVariants.{Axis0 as axis0, Axis1 as axis1, Axis2 as axis2}
+use Rattle.rules.specs.Walk.{vector_of, from, to, first, second, level, takes_part, levelled, normal}
 use Rattle.laws.specs.Parts.{dot-difference, scale_one}
 use Rattle.laws.specs.Triples.{all_of, crosses, combined, equal-products}
 use Rattle.laws.specs.Flat.{Lies, raised, is_one, product, raised-dot, raised-same, raised-way, level-dot, levelled-raised, scaled-products}

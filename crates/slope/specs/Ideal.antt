@@ -15,10 +15,12 @@ use Rattle.rules.specs.declared.Vector.{Vector}
 use Rattle.rules.specs.declared.Levels.{Levels}
 use Rattle.rules.specs.declared.Triangle.{Triangle}
 use Rattle.rules.specs.declared.Pair.{Pair}
-use Rattle.rules.specs.declared.Choice.{Choice}
-use Rattle.rules.specs.declared.Choice.TheVariants.{Nothing, Chosen}
+use Rattle.rules.specs.Answers.{Choice}
+use Rattle.std.specs.Prelude.{None as Nothing, Some as Chosen}
 use Rattle.rules.specs.Vectors.{◌⊖◌, dot, lay, size}
-use Rattle.rules.specs.Walk.{Axis, axis0, axis1, axis2, vector_of, with_vector, pairs, from, first, second, way, step, units, choice, only, remaining, takes_part}
+use Rattle.rules.specs.declared.Axis.{Axis}
+use Rattle.rules.specs.declared.Axis.TheVariants.{Axis0 as axis0, Axis1 as axis1, Axis2 as axis2}
+use Rattle.rules.specs.Walk.{vector_of, with_vector, pairs, from, first, second, way, step, units, choice, only, remaining, takes_part}
 use Rattle.rules.specs.Lean.{levels_of}
 use Rattle.laws.specs.Only.{each-both-of, only-holds, only-each, only_none, each_member, taking-in}
 use Rattle.laws.specs.Parts.{dot-difference}

@@ -9,8 +9,8 @@ use Rattle.rules.specs.declared.Vector.{Vector}
 use Rattle.rules.specs.declared.Levels.{Levels}
 use Rattle.rules.specs.declared.Triangle.{Triangle}
 use Rattle.rules.specs.declared.Pair.{Pair}
-use Rattle.rules.specs.declared.Choice.{Choice}
-use Rattle.rules.specs.declared.Choice.TheVariants.{Nothing, Chosen}
+use Rattle.rules.specs.Answers.{Choice}
+use Rattle.std.specs.Prelude.{None as Nothing, Some as Chosen}
 use Rattle.rules.specs.Vectors.{lay}
 use Rattle.rules.specs.Walk.{Stop, stop, pairs, way, step, keep, only, choice, takes_part, Probe}
 use Rattle.laws.specs.Tests.{Each}

@@ -6,12 +6,10 @@ use Rattle.rules.specs.declared.Wedge.{Wedge}
 use Rattle.rules.specs.declared.Stack.{Stack}
 use Rattle.rules.specs.declared.Levels.{Levels}
 use Rattle.rules.specs.declared.ReadyStart.{ReadyStart}
-use Rattle.rules.specs.declared.Check.{Check}
-use Rattle.rules.specs.declared.Check.TheVariants.{Ready, Refused as CheckRefused}
+use Rattle.rules.specs.Answers.{Check, Pick}
+use Rattle.std.specs.Prelude.{Ok as Ready, Err as CheckRefused, Ok as Accepted, Err as Refused}
 use Rattle.rules.specs.declared.Accepted.{Accepted as AcceptedPick}
 use Rattle.rules.specs.declared.Refused.{Refused as RefusedPick}
-use Rattle.rules.specs.declared.Pick.{Pick}
-use Rattle.rules.specs.declared.Pick.TheVariants.{Accepted, Refused}
 use Rattle.rules.specs.Vectors.{vector}
 use Rattle.rules.specs.Walk.{levels, none_level}
 use Rattle.rules.specs.Pick.{WedgePromise, StackPromise}

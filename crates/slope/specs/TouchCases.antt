@@ -4,8 +4,8 @@ use Rattle.std.specs.Prelude.{◌≡◌, refl, ℕ, ℤ, pos, negsuc}
 use Rattle.std.proofs.Common.{ap, arith}
 use Rattle.integers.specs.Order.{parts}
 use Rattle.rules.specs.declared.Vector.{Vector}
-use Rattle.rules.specs.declared.Touch.{Touch}
-use Rattle.rules.specs.declared.Touch.TheVariants.{Guess, Refused as TouchRefused}
+use Rattle.rules.specs.Answers.{Touch}
+use Rattle.std.specs.Prelude.{Ok as Guess, Err as TouchRefused}
 use Rattle.rules.specs.Vectors.{vector, ◌⊕◌, ◌⊖◌, minus, scale, dot, cross, det, sphere, lay, size, unit0, unit2}
 use Rattle.rules.specs.Solids.{between, permitted_wedge, filled_wedge, in_box, look, row_bytes, slice_bytes, stack_bytes, permitted_stack, voxel, filled_stack}
 use Rattle.rules.specs.Asked.{after, ◌>>=◌}
@@ -23,7 +23,7 @@ data Outcome : Type 0 where
   R : ℕ → Outcome
 
 outcome : Touch → Outcome
-outcome (Guess a) = G a.normal a.steps a.looks
+outcome (Guess g) = let a = g.answer in G a.normal a.steps a.looks
 outcome (TouchRefused r) = R r.number
 
 guesses : {n : Vector} {t : ℤ} {i : Inputs} {steps looks : ℕ} → OnSlope n t i → dot n (apex_of i) ≡ t → outcome (touch_at i) ≡ G n steps looks → Guesses n t i steps looks
@@ -31,7 +31,7 @@ unfolding outcome
 guesses {n} {t} {i} {steps} {looks} o l e = go (touch_at i) refl e
   where
     go : (x : Touch) → touch_at i ≡ x → outcome x ≡ G n steps looks → Guesses n t i steps looks
-    go (Guess a) is e = record { on_level = record { on_slope = o; first_level = l }; answer = a; is = is; is_normal = cc e; steps_are = cc e; looks_are = cc e }
+    go (Guess g) is e = record { on_level = record { on_slope = o; first_level = l }; answer = g.answer; is = is; is_normal = cc e; steps_are = cc e; looks_are = cc e }
     go (TouchRefused r) is e = absurd (let z : ◌≡◌ {A = ℕ} 0 1 = cc e in omega arith)
 
 refuses : {n : Vector} {t : ℤ} {i : Inputs} {number : ℕ} → OnSlope n t i → dot n (apex_of i) ≡ t → outcome (touch_at i) ≡ R number → TouchRefuses n t i number
@@ -47,7 +47,7 @@ unfolding outcome
 guesses-wrong {n} {t} {i} guessed steps looks o e w = go (touch_at i) refl e
   where
     go : (x : Touch) → touch_at i ≡ x → outcome x ≡ G guessed steps looks → WrongGuess n t i guessed
-    go (Guess a) is e = record { on_slope = o; answer = a; is = is; is_normal = cc e; is_wrong = w }
+    go (Guess g) is e = record { on_slope = o; answer = g.answer; is = is; is_normal = cc e; is_wrong = w }
     go (TouchRefused r) is e = absurd (let z : ◌≡◌ {A = ℕ} 0 1 = cc e in omega arith)
 
 differ : (a b : Vector) → (a.x ≡ b.x → ⊥) → a ≡ b → ⊥

@@ -7,12 +7,12 @@ use Rattle.rules.specs.declared.Wedge.{Wedge}
 use Rattle.rules.specs.declared.Stack.{Stack}
 use Rattle.rules.specs.declared.Accepted.{Accepted as AcceptedPick}
 use Rattle.rules.specs.declared.Refused.{Refused as RefusedPick}
-use Rattle.rules.specs.declared.Pick.TheVariants.{Accepted}
-use Rattle.rules.specs.declared.Touch.{Touch}
-use Rattle.rules.specs.declared.Touch.TheVariants.{Guess, Refused as TouchRefused}
+use Rattle.rules.specs.Answers.{Touch, guess}
+use Rattle.std.specs.Prelude.{Ok as Accepted, Ok as Guess, Err as TouchRefused}
 use Rattle.rules.specs.Vectors.{vector, dot, size}
 use Rattle.rules.specs.Solids.{box, in_box}
-use Rattle.rules.specs.Walk.{Axis, unit, laid, Probe, corner}
+use Rattle.rules.specs.declared.Axis.{Axis}
+use Rattle.rules.specs.Walk.{unit, laid, Probe, corner}
 use Rattle.rules.specs.Touch.{nearer, touch_of, WedgeTouchPromise, StackTouchPromise}
 use Rattle.rules.specs.Lean.{levels_of}
 use Rattle.laws.specs.Tests.{Each}
@@ -72,7 +72,7 @@ pub record TouchLevel (n : Vector) (i : Inputs) (r : RefusedPick) : Type 0 where
 
 -- one of the three, nothing else
 abbrev pub TouchedAs : Vector → Inputs → Touch → Type 0
-TouchedAs n i (Guess a) = GuessWith n i a
+TouchedAs n i (Guess g) = GuessWith n i g.answer
 TouchedAs n i (TouchRefused r) = TouchOutside n i r ⊎ TouchLevel n i r
 
 -- a wedge whose a, b, c are g times n, with q on its first empty level: g(n·q - 1) < h ≤ g(n·q)
@@ -87,8 +87,8 @@ pub record QuickTouch : Type 0 where
   -- 11 exactly where a component is 0
   pub eleven : (n : Vector) (t : ℤ) (i : Inputs) → OnLevel n t i → (k : Axis) → part k n ≡ pos 0 → (r : RefusedPick) × (touch_at i ≡ TouchRefused r) × TouchLevel n i r
   -- every accepted long walk on a slope of n: any solid, start, reach and offset. n has no zero part where a touch is accepted, so it has one frame
-  pub as_long_walk : (n : Vector) (t u : ℤ) (i j : Inputs) → OnLevel n t i → OnSlope n u j → (a b : AcceptedPick) → touch_at i ≡ Guess a → pick_at j ≡ Accepted b → Same a b
-  pub two_touches : (n : Vector) (t u : ℤ) (i j : Inputs) → OnLevel n t i → OnLevel n u j → (a b : AcceptedPick) → touch_at i ≡ Guess a → touch_at j ≡ Guess b → Same a b
+  pub as_long_walk : (n : Vector) (t u : ℤ) (i j : Inputs) → OnLevel n t i → OnSlope n u j → (a b : AcceptedPick) → touch_at i ≡ guess a → pick_at j ≡ Accepted b → Same a b
+  pub two_touches : (n : Vector) (t u : ℤ) (i j : Inputs) → OnLevel n t i → OnLevel n u j → (a b : AcceptedPick) → touch_at i ≡ guess a → touch_at j ≡ guess b → Same a b
   -- of what the entry points promise
   pub wedge_touch : (g : ℤ) (n : Vector) (wedge : Wedge) (p : Vector) (frame reach : ℤ) → OnWedgeLevel g n wedge p frame reach
       → (r : Touch) → WedgeTouchPromise wedge p frame reach r → TouchedAs n (of_wedge wedge p frame reach) r
@@ -99,7 +99,7 @@ pub record QuickTouch : Type 0 where
 pub record Guesses (n : Vector) (t : ℤ) (i : Inputs) (steps looks : ℕ) : Type 0 where
   pub on_level : OnLevel n t i
   pub answer : AcceptedPick
-  pub is : touch_at i ≡ Guess answer
+  pub is : touch_at i ≡ guess answer
   pub is_normal : answer.normal ≡ n
   pub steps_are : answer.steps ≡ steps
   pub looks_are : answer.looks ≡ looks
@@ -114,7 +114,7 @@ pub record TouchRefuses (n : Vector) (t : ℤ) (i : Inputs) (number : ℕ) : Typ
 pub record WrongGuess (n : Vector) (t : ℤ) (i : Inputs) (guessed : Vector) : Type 0 where
   pub on_slope : OnSlope n t i
   pub answer : AcceptedPick
-  pub is : touch_at i ≡ Guess answer
+  pub is : touch_at i ≡ guess answer
   pub is_normal : answer.normal ≡ guessed
   pub is_wrong : guessed ≡ n → ⊥
 

@@ -6,7 +6,8 @@ use Rattle.rules.specs.declared.Vector.{Vector}
 use Rattle.rules.specs.declared.Solid.{Solid}
 use Rattle.rules.specs.declared.Solid.TheVariants.{Wedge as IsWedge, Stack as IsStack}
 use Rattle.rules.specs.Vectors.{vector}
-use Rattle.rules.specs.Walk.{Axis, axis0, axis1, axis2}
+use Rattle.rules.specs.declared.Axis.{Axis}
+use Rattle.rules.specs.declared.Axis.TheVariants.{Axis0 as axis0, Axis1 as axis1, Axis2 as axis2}
 use Rattle.stack.specs.Bits.{stack_ranks, bit_at, BitHeld}
 use Rattle.solid.specs.declared.Grid.{Grid}
 

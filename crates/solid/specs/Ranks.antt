@@ -9,7 +9,8 @@ use Rattle.rules.specs.declared.Solid.{Solid}
 use Rattle.rules.specs.declared.Solid.TheVariants.{Wedge as IsWedge, Stack as IsStack}
 use Rattle.rules.specs.Vectors.{vector, dot}
 use Rattle.rules.specs.Solids.{row_bytes, slice_bytes, filled_wedge, box, in_side, in_box, filled}
-use Rattle.rules.specs.Walk.{Axis, axis0, axis1, axis2}
+use Rattle.rules.specs.declared.Axis.{Axis}
+use Rattle.rules.specs.declared.Axis.TheVariants.{Axis0 as axis0, Axis1 as axis1, Axis2 as axis2}
 use Rattle.laws.specs.Bounds.{Bounded}
 use Rattle.laws.specs.Parts.{part}
 use Rattle.laws.specs.Tests.{is_true}
@@ -54,10 +55,10 @@ part-sides g axis1 = refl
 part-sides g axis2 = refl
 
 pub in-box-along : {s : Solid} {bytes : List ℕ} (q : Vector) (k : Axis) (z : ℤ) {side : ℕ} {i : Bool}
-    → PermittedSolid s bytes → InBoxOf s q → side ≡ side_at (grid_of s) k → i ≡ in_side (pos side) z → i ≡ in_box (sides_of (grid_of s)) (with_part q k z)
+    → PermittedSolid s bytes → InBoxOf s q → side ≡ side_at (grid_of s) k → i ≡ in_side (pos side) z → i ≡ in_box (box s) (with_part q k z)
 in-box-along {s} q k z {side} h p e i =
-    i ∙ ap (λ (n : ℕ). in_side (pos n) z) e ∙ ap (λ (n : ℤ). in_side n z) (part-sides (grid_of s) k)
-    ∙ one_side (sides_of (grid_of s)) q k z (ap (λ (v : Vector). in_box v q) (sides-are s h) ∙ p.is)
+    i ∙ ap (λ (n : ℕ). in_side (pos n) z) e ∙ ap (λ (n : ℤ). in_side n z) (part-sides (grid_of s) k ∙ ap (part k) (sides-are s h))
+    ∙ one_side (box s) q k z p.is
 
 ranks-are : (s : Solid) → (grid_of s).ranks ≡ ranks_of s
 ranks-are (IsWedge w) = refl
@@ -71,6 +72,9 @@ ranks-small (IsStack k) h =
     let row : row_bytes (nat_abs k.width) ≤ 32 = omega (arith, s.wide.side.most) in
     let slice = mul-le-mul s.high.side.most row in
     record { in-x = within_wider (within-literal (pos 1)) (lit≤ tt); in-y = record { size = omega arith }; in-z = record { size = omega arith } }
+
+pub grid-small : {s : Solid} {bytes : List ℕ} {g : Grid} → PermittedSolid s bytes → g ≡ grid_of s → GridRanks g
+grid-small {s} h e = rw e (ranks-small s h)
 
 -- so a rank is small where the parts are
 ranks-within : {g : Grid} {n : ℕ} {v : Vector} → GridRanks g → Bounded n v → Within (67536 * n) (dot g.ranks v)

@@ -1,15 +1,15 @@
 // The two solids behind one look.
 #![tactic(auto)]
 
-ghost use Rattle.std.specs.Prelude.{◌≡◌, ◌<◌, pos, true};
+ghost use Rattle.std.specs.Prelude.{◌≡◌, pos, true};
 ghost use Rattle.rules.specs.Vectors.{dot};
-ghost use Rattle.rules.specs.Solids.{permitted_wedge, permitted, in_side, in_box, seen_as, look};
+ghost use Rattle.rules.specs.Solids.{permitted_wedge, permitted, box, in_side, in_box, seen_as, look};
 ghost use Rattle.laws.specs.Bounds.{Bounded};
-ghost use Rattle.axis.specs.Axes.{axis_at, with_part};
+ghost use Rattle.axis.specs.Axes.{with_part};
 ghost use Rattle.solid.specs.Asks.{PermittedSolid, InBoxOf};
-ghost use Rattle.solid.specs.Grid.{grid_of, side_at, sides_of, ranks_of, GridRanks, filled_at, RankHeld};
+ghost use Rattle.solid.specs.Grid.{grid_of, side_at, ranks_of, filled_at, RankHeld, sides_of, GridRanks};
 
-use rules::{Look, Solid, Vector, Wedge};
+use rules::{Axis, Look, Solid, Vector, Wedge};
 
 // ---- what is permitted
 
@@ -44,133 +44,147 @@ pub struct Grid {
     pub ranks: Vector,
 }
 
-pub fn grid_of(s: Solid, bytes: &[u8]) -> Grid
+impl Grid {
+    pub fn side_of(self, axis: Axis) -> u16
+        ensures { result ≡ side_at self axis }
+    {
+        axis::choose(axis, self.width, self.height, self.depth)
+    }
+
+    pub fn is_inside(self, p: Vector) -> bool
+        ensures { result ≡ in_box (sides_of self) p }
+    {
+        let x = is_in_side(self.width, p.x);
+        let y = is_in_side(self.height, p.y);
+        let z = is_in_side(self.depth, p.z);
+        x & (y & z)
+    }
+
+    // A voxel's rank: n·v of a wedge, the place of its bit in a stack. It is a product, so that along a way it goes in equal steps.
+    pub fn rank_of(self, v: Vector) -> i32
+        requires { GridRanks self × Bounded 10000 v }
+        ensures { result ≡ dot self.ranks v }
+    {
+        let r = self.ranks;
+        r.x * v.x + r.y * v.y + r.z * v.z
+    }
+}
+
+fn grid_of(s: Solid, bytes: &[u8]) -> Grid
     requires { PermittedSolid s bytes.now }
     ensures { result ≡ grid_of s }
 {
     match s {
-        Solid::Wedge(w) => {
-            let ranks = Vector {
+        Solid::Wedge(w) => Grid {
+            width: 1024,
+            height: 1024,
+            depth: 1024,
+            ranks: Vector {
                 x: w.a,
                 y: w.b,
                 z: w.c,
-            };
-            Grid {
-                width: 1024,
-                height: 1024,
-                depth: 1024,
-                ranks: ranks,
-            }
-        }
-        Solid::Stack(k) => {
-            let ranks = stack::ranks_of(k);
-            Grid {
-                width: k.width as u16,
-                height: k.height as u16,
-                depth: k.depth as u16,
-                ranks: ranks,
-            }
-        }
+            },
+        },
+        Solid::Stack(k) => Grid {
+            width: k.width as u16,
+            height: k.height as u16,
+            depth: k.depth as u16,
+            ranks: stack::ranks_of(k),
+        },
     }
 }
 
 fn is_in_side(side: u16, x: i32) -> bool
     ensures { result ≡ in_side (pos side) x }
 {
-    (0 <= x) & (x < (side as i32))
+    (0 <= x) & (x < side as i32)
 }
 
-pub fn side_of(g: Grid, axis: u32) -> u16
-    requires { axis < 3 }
-    ensures { result ≡ side_at g (axis_at axis) }
+// ---- a permitted solid
+
+// With its lent bytes. The grid is made once.
+#[derive(Clone, Copy)]
+pub struct Body<'a> {
+    pub solid: Solid,
+    pub bytes: &'a [u8],
+    pub grid: Grid,
+    ghost permitted: { PermittedSolid solid bytes.now },
+    ghost gridded: { grid ≡ grid_of solid },
+}
+
+pub fn body_of(solid: Solid, bytes: &[u8]) -> Body<'_>
+    requires { PermittedSolid solid bytes.now }
+    ensures { (result.solid ≡ solid) × (result.bytes.now ≡ bytes.now) }
 {
-    if axis == 0 {
-        return g.width;
+    let grid = grid_of(solid, bytes);
+    Body { solid, bytes, grid }
+}
+
+impl Body<'_> {
+    pub fn is_inside(&self, p: Vector) -> bool
+        ensures { result ≡ in_box (box self.now.solid) p }
+    {
+        self.grid.is_inside(p)
     }
-    if axis == 1 { g.height } else { g.depth }
-}
 
-pub fn is_inside(g: Grid, p: Vector) -> bool
-    ensures { result ≡ in_box (sides_of g) p }
-{
-    let x = is_in_side(g.width, p.x);
-    let y = is_in_side(g.height, p.y);
-    let z = is_in_side(g.depth, p.z);
-    x & (y & z)
-}
-
-// ---- what is filled
-
-// A voxel's rank: n·v of a wedge, the place of its bit in a stack. It is a product, so that along a way it goes in equal steps.
-pub fn rank_of(g: Grid, v: Vector) -> i32
-    requires { GridRanks g × Bounded 10000 v }
-    ensures { result ≡ dot g.ranks v }
-{
-    let r = g.ranks;
-    r.x * v.x + r.y * v.y + r.z * v.z
-}
-
-// Of a voxel in the box, by its rank.
-fn is_filled(s: Solid, bytes: &[u8], rank: i32) -> bool
-    requires { RankHeld s bytes.now rank }
-    ensures { result ≡ filled_at s bytes.now rank }
-{
-    match s {
-        Solid::Wedge(w) => rank < w.h,
-        Solid::Stack(_) => stack::is_bit(bytes, rank as usize),
+    pub fn rank_of(&self, v: Vector) -> i32
+        requires { Bounded 10000 v }
+        ensures { result ≡ dot (ranks_of self.now.solid) v }
+    {
+        self.grid.rank_of(v)
     }
-}
 
-// ---- the look
-
-fn see(s: Solid, bytes: &[u8], rank: i32) -> Look
-    requires { RankHeld s bytes.now rank }
-    ensures { result ≡ seen_as true (filled_at s bytes.now rank) }
-{
-    if is_filled(s, bytes, rank) {
-        Look::Filled
-    } else {
-        Look::Empty
+    // Of a voxel in the box, by its rank.
+    fn is_filled(&self, rank: i32) -> bool
+        requires { RankHeld self.now.solid self.now.bytes.now rank }
+        ensures { result ≡ filled_at self.now.solid self.now.bytes.now rank }
+    {
+        match self.solid {
+            Solid::Wedge(w) => rank < w.h,
+            Solid::Stack(_) => stack::is_bit(self.bytes, rank as usize),
+        }
     }
-}
 
-pub fn look_at(s: Solid, g: Grid, bytes: &[u8], p: Vector) -> Look
-    requires { PermittedSolid s bytes.now × (g ≡ grid_of s) }
-    ensures { result ≡ look s bytes.now p }
-{
-    if is_inside(g, p) {
-        see(s, bytes, rank_of(g, p))
-    } else {
-        Look::Outside
+    fn see(&self, rank: i32) -> Look
+        requires { RankHeld self.now.solid self.now.bytes.now rank }
+        ensures { result ≡ seen_as true (filled_at self.now.solid self.now.bytes.now rank) }
+    {
+        if self.is_filled(rank) {
+            Look::Filled
+        } else {
+            Look::Empty
+        }
     }
-}
 
-// The look at a point whose rank is at hand.
-pub fn look_ranked(s: Solid, g: Grid, bytes: &[u8], p: Vector, rank: i32) -> Look
-    requires { PermittedSolid s bytes.now × (g ≡ grid_of s) × (rank ≡ dot (ranks_of s) p) }
-    ensures { result ≡ look s bytes.now p }
-{
-    if is_inside(g, p) {
-        return see(s, bytes, rank);
+    pub fn look_at(&self, p: Vector) -> Look
+        ensures { result ≡ look self.now.solid self.now.bytes.now p }
+    {
+        if self.is_inside(p) {
+            self.see(self.rank_of(p))
+        } else {
+            Look::Outside
+        }
     }
-    Look::Outside
-}
 
-// The look at the point that has z along an axis and is q, a voxel of the box, along the others: the axis's side alone is asked.
-pub fn look_along(
-    s: Solid,
-    side: u16,
-    bytes: &[u8],
-    q: Vector,
-    axis: u32,
-    z: i32,
-    rank: i32,
-) -> Look
-    requires { PermittedSolid s bytes.now × InBoxOf s q × (side ≡ side_at (grid_of s) (axis_at axis)) × (rank ≡ dot (ranks_of s) (with_part q (axis_at axis) z)) }
-    ensures { result ≡ look s bytes.now (with_part q (axis_at axis) z) }
-{
-    if is_in_side(side, z) {
-        return see(s, bytes, rank);
+    // The look at a point whose rank is at hand.
+    pub fn look_ranked(&self, p: Vector, rank: i32) -> Look
+        requires { rank ≡ dot (ranks_of self.now.solid) p }
+        ensures { result ≡ look self.now.solid self.now.bytes.now p }
+    {
+        if !self.is_inside(p) {
+            return Look::Outside;
+        }
+        self.see(rank)
     }
-    Look::Outside
+
+    // The look at the point that has z along an axis and is q, a voxel of the box, along the others: the axis's side alone is asked.
+    pub fn look_along(&self, side: u16, q: Vector, axis: Axis, z: i32, rank: i32) -> Look
+        requires { InBoxOf self.now.solid q × (side ≡ side_at (grid_of self.now.solid) axis) × (rank ≡ dot (ranks_of self.now.solid) (with_part q axis z)) }
+        ensures { result ≡ look self.now.solid self.now.bytes.now (with_part q axis z) }
+    {
+        if !is_in_side(side, z) {
+            return Look::Outside;
+        }
+        self.see(rank)
+    }
 }

@@ -7,7 +7,6 @@ ghost use Rattle.rules.specs.Vectors.{◌⊕◌, ◌⊖◌, minus, scale, dot, c
 ghost use Rattle.laws.specs.Bounds.{Bounded};
 
 use rules::Vector;
-use size::size_of;
 
 pub fn add(a: Vector, b: Vector) -> Vector
     requires { Bounded 1000000000 a × Bounded 1000000000 b }
@@ -72,10 +71,7 @@ pub fn size(a: Vector) -> u32
     requires { Bounded 1000000000 a }
     ensures { result ≡ size a }
 {
-    let x = size_of(a.x);
-    let y = size_of(a.y);
-    let z = size_of(a.z);
-    x + y + z
+    a.x.unsigned_abs() + a.y.unsigned_abs() + a.z.unsigned_abs()
 }
 
 pub fn dot(a: Vector, b: Vector) -> i32

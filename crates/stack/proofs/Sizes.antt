@@ -1,12 +1,13 @@
 -- A row takes at most 32 bytes, so a slice and a stack take few, and every product fits.
 use mathlib.Core.Path.{◌≡◌, refl, ap, ap₂, ◌∙◌}
-use Prim.Native.Nat.{ℕ, ◌+◌, ◌*◌, ◌/◌, ◌≤◌}
+use Prim.Native.Nat.{ℕ, ◌+◌, ◌*◌, ◌/◌, ◌%◌, ◌≤◌}
 use native.Mathlib.Nat.{mul-le-mul}
 use native.Mathlib.Omega.{arith}
-use lib.IntN.{pos}
+use lib.IntN.{pos, nat_abs}
 use mir.Syntax.{w32, w64}
 use mir.Val.{Fits, to_z}
 use mir.Facts.{Fits-le, Fits-lit}
+use Rattle.std.specs.Prelude.{min}
 use Rattle.integers.specs.Machine.{natural-back}
 use Rattle.rules.specs.declared.Stack.{Stack}
 use Rattle.rules.specs.Vectors.{vector}
@@ -15,9 +16,12 @@ use Rattle.stack.specs.Sides.{Side, SidesOf, cast, side-kept, side-cast}
 use Rattle.stack.specs.Bytes.{SliceSides, RowBytes, SliceBytes}
 use Rattle.stack.specs.Bits.{stack_ranks}
 
-pub row-bytes : {w : ℕ} → Side w → RowBytes w ((w + 7) / 8)
+whole-bytes : (w : ℕ) → w / 8 + min 1 (w % 8) ≡ (w + 7) / 8
+whole-bytes w = omega arith
+
+pub row-bytes : {w : ℕ} → Side w → RowBytes w (w / 8 + min 1 (w % 8))
 unfolding row_bytes
-row-bytes s = let a = s.some in let b = s.most in record { is = refl; some = omega arith; small = omega arith }
+row-bytes {w} s = let a = s.some in let b = s.most in rw (whole-bytes w) (record { is = refl; some = omega arith; small = omega arith })
 
 module _ {w h b : ℕ} (s : SliceSides w h) (r : RowBytes w b) where
   slice-small : h * b ≤ 8192
@@ -32,21 +36,18 @@ module _ {w h b : ℕ} (s : SliceSides w h) (r : RowBytes w b) where
 
 -- ---- the whole
 module _ {k : Stack} (s : SidesOf k) where
-  pub slice-sides : SliceSides (cast k.width) (cast k.height)
-  slice-sides = record { wide = side-cast s.wide; high = (side-cast s.high).most }
-
-  module _ {n : ℕ} (z : SliceBytes (cast k.width) (cast k.height) n) where
+  module _ {w h n : ℕ} (e : w ≡ nat_abs k.width) (f : h ≡ nat_abs k.height) (z : SliceBytes w h n) where
     pub stack-fits : Fits w64 (cast k.depth * n)
     stack-fits = Fits-le (mul-le-mul (side-cast s.deep).most z.small) (Fits-lit tt)
 
     pub stack-bytes : cast k.depth * n ≡ stack_bytes k
     unfolding stack_bytes
-    stack-bytes = ap₂ ◌*◌ (side-kept s.deep) (z.is ∙ ap₂ slice_bytes (side-kept s.wide) (side-kept s.high))
+    stack-bytes = ap₂ ◌*◌ (side-kept s.deep) (z.is ∙ ap₂ slice_bytes e f)
 
     -- 8 bits a byte
-    pub ranks-are : {row : ℕ} → RowBytes (cast k.width) row → vector (pos 1) (to_z w32 (8 * row)) (to_z w32 (8 * n)) ≡ stack_ranks k
+    pub ranks-are : {row : ℕ} → RowBytes w row → vector (pos 1) (to_z w32 (8 * row)) (to_z w32 (8 * n)) ≡ stack_ranks k
     unfolding stack_ranks
     ranks-are {row} r =
-        let y = natural-back w32 (8 * row) 256 (omega (arith, r.small)) tt ∙ ap (λ (b : ℕ). pos (8 * b)) (r.is ∙ ap row_bytes (side-kept s.wide)) in
-        let x = natural-back w32 (8 * n) 65536 (omega (arith, z.small)) tt ∙ ap (λ (b : ℕ). pos (8 * b)) (z.is ∙ ap₂ slice_bytes (side-kept s.wide) (side-kept s.high)) in
+        let y = natural-back w32 (8 * row) 256 (omega (arith, r.small)) tt ∙ ap (λ (b : ℕ). pos (8 * b)) (r.is ∙ ap row_bytes e) in
+        let x = natural-back w32 (8 * n) 65536 (omega (arith, z.small)) tt ∙ ap (λ (b : ℕ). pos (8 * b)) (z.is ∙ ap₂ slice_bytes e f) in
         λ i. vector (pos 1) (y i) (x i)

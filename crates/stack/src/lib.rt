@@ -1,7 +1,7 @@
 // Stacks: how many bytes they take, which are permitted, and which voxels are filled.
 #![tactic(auto)]
 
-ghost use Rattle.std.specs.Prelude.{◌≡◌};
+ghost use Rattle.std.specs.Prelude.{◌≡◌, nat_abs};
 ghost use Rattle.rules.specs.Solids.{stack_bytes, permitted_stack};
 ghost use Rattle.stack.specs.Sides.{Side, SidesOf, sizes_permitted};
 ghost use Rattle.stack.specs.Bytes.{SliceSides, RowBytes, SliceBytes};
@@ -11,29 +11,44 @@ use rules::{Stack, Vector};
 
 // ---- bytes
 
-pub fn row_bytes(width: usize) -> usize
-    requires { Side width }
-    ensures { RowBytes width result }
-{
-    (width + 7) / 8
+// The sides of a slice; it may have no row.
+#[derive(Clone, Copy)]
+pub struct SliceSize {
+    pub width: usize,
+    pub height: usize,
+    ghost permitted: { SliceSides width height },
 }
 
-pub fn slice_bytes(width: usize, height: usize) -> usize
-    requires { SliceSides width height }
-    ensures { SliceBytes width height result }
+impl SliceSize {
+    pub fn row_bytes(self) -> usize
+        ensures { RowBytes self.width result }
+    {
+        self.width.div_ceil(8)
+    }
+
+    pub fn bytes(self) -> usize
+        ensures { SliceBytes self.width self.height result }
+    {
+        self.height * self.row_bytes()
+    }
+}
+
+fn slice_of(k: Stack) -> SliceSize
+    requires { SidesOf k }
+    ensures { (result.width ≡ nat_abs k.width) × (result.height ≡ nat_abs k.height) }
 {
-    height * row_bytes(width)
+    SliceSize {
+        width: k.width as usize,
+        height: k.height as usize,
+    }
 }
 
 fn stack_bytes(k: Stack) -> usize
     requires { SidesOf k }
     ensures { result ≡ stack_bytes k }
 {
-    let width = k.width as usize;
-    let height = k.height as usize;
     let depth = k.depth as usize;
-    let slice = slice_bytes(width, height);
-    depth * slice
+    depth * slice_of(k).bytes()
 }
 
 // ---- what is permitted
@@ -52,11 +67,7 @@ fn has_sizes(k: Stack) -> bool
 pub fn is_permitted(k: Stack, bytes: &[u8]) -> bool
     ensures { result ≡ permitted_stack k bytes.now }
 {
-    if has_sizes(k) {
-        stack_bytes(k) <= bytes.len()
-    } else {
-        false
-    }
+    has_sizes(k) && stack_bytes(k) <= bytes.len()
 }
 
 // ---- voxels
@@ -66,14 +77,13 @@ pub fn ranks_of(k: Stack) -> Vector
     requires { SidesOf k }
     ensures { result ≡ stack_ranks k }
 {
-    let width = k.width as usize;
-    let height = k.height as usize;
-    let row = 8 * row_bytes(width);
-    let slice = 8 * slice_bytes(width, height);
+    let slice = slice_of(k);
+    let row = 8 * slice.row_bytes();
+    let bits = 8 * slice.bytes();
     Vector {
         x: 1,
         y: row as i32,
-        z: slice as i32,
+        z: bits as i32,
     }
 }
 

@@ -1,36 +1,31 @@
 -- The three axes in turn: before each, those from it on give what all three give, after the levels told so far. An axis that refuses ends them, one that is
 -- asked is told and passed; behind the last the levels are judged.
-use mathlib.Core.Path.{◌≡◌, ap}
-use mathlib.Core.Bool.{Bool}
-use mathlib.Core.List.{List, [], ◌∷◌}
-use Prim.Native.Nat.{ℕ, ◌+◌, ◌*◌, ◌≤◌, ◌<◌}
-use native.Mathlib.Numerals.{add-one}
-use native.Mathlib.Omega.{arith}
+use Rattle.std.specs.Prelude.{◌≡◌, List, [], ◌∷◌, ℕ, zero, suc, ◌+◌, ◌*◌, ◌≤◌, ◌<◌, Ok, Err, slice_index_or}
+use Rattle.std.proofs.Common.{ap, arith, refl}
+use Rattle.std.proofs.Math.ListN.{drop, drop_of_length-le}
 use borrow.Author.Rules.{rules}
-use lib.ListN.{drop, drop_of_length-le}
-use lib.Seq.{drop-cons}
 use Rattle.rules.specs.declared.Levels.{Levels}
 use Rattle.rules.specs.declared.Refused.{Refused}
 use Rattle.rules.specs.Asked.{Asked, ◌>>=◌}
-use Rattle.rules.specs.Walk.{Stop, Axis, axis0, all_axes, unit, none_level, Probe, is_level, axes}
+use Rattle.rules.specs.declared.Axis.{Axis}
+use Rattle.rules.specs.Walk.{Stop, all_axes, unit, none_level, Probe, is_level, axes}
 use Rattle.laws.specs.Tally.{Tally, Gives, most_looks, then-yes, then-no}
-use Rattle.axis.specs.Axes.{axis_at}
 use Rattle.falls.specs.declared.Falls.{Falls}
 use Rattle.falls.specs.declared.Scene.{Scene}
 use Rattle.along.specs.declared.Line.{Line}
 use Rattle.along.specs.Lines.{LineOf}
-use Rattle.along.specs.Facts.{line-axis, line-in}
-use Rattle.start.specs.declared.AxisAnswer.{AxisAnswer}
-use Rattle.start.specs.declared.AxisAnswer.TheVariants.{Asked as IsAsked, Refused as AxisRefused}
-use Rattle.start.specs.declared.Start.{Start}
-use Rattle.start.specs.declared.Start.TheVariants.{Refused as IsRefused}
-use Rattle.start.specs.Start.{axis_tally, axis_looks, levels_judged, LevelsJudged, MinusAsked, AxisJudged, with_level, AxesAsked}
+use Rattle.along.specs.Facts.{line-in}
+use Rattle.start.specs.declared.AxisTold.{AxisTold}
+use Rattle.start.specs.Start.{Start, AxisAnswer, axis_tally, levels_judged, LevelsJudged, MinusAsked, AxisJudged, with_level, AxesAsked}
 
 -- what a question of one axis asks
 pub ruleset one-axis = (line-in, rules)
 
-axes-from : (i : ℕ) → i < 3 → drop i all_axes ≡ axis_at i ∷ drop (i + 1) all_axes
-axes-from i l = rw (add-one, drop-cons all_axes i axis0)
+axes-from : (k : Axis) (i : ℕ) → i < 3 → drop i all_axes ≡ slice_index_or all_axes i k ∷ drop (i + 1) all_axes
+axes-from k zero l = refl
+axes-from k (suc zero) l = refl
+axes-from k (suc (suc zero)) l = refl
+axes-from k (suc (suc (suc i))) l = absurd (omega (arith, l))
 
 -- ---- the axes in turn
 module _ (c : Probe) where
@@ -57,23 +52,18 @@ module _ {c : Probe} {looks : ℕ} where
     unfolding axes_left
     asking-ends l j = record { gives = h.rest (rw (drop_of_length-le all_axes l) j.gives); few = omega (arith, h.count, h.few, j.few) }
 
-    module _ {w : Scene} {d : Line} {f : Falls} {a : AxisAnswer} (l : i < 3) (u : LineOf w i d) (m : MinusAsked c (unit (axis_at d.axis)) n f) (g : AxisJudged c (unit (axis_at d.axis)) f a) where
-      module _ {r : AxisAnswer} (j : a ≡ r) where
-        answer-gives : Gives n (is_level c (unit (axis_at i))) (axis_tally r)
-        answer-gives = rw (line-axis u, j) at (g.gives m)
-
-        answer-few : axis_looks r ≤ looks + most_looks (2 * (i + 1))
-        answer-few = omega (arith, h.few, m.few, g.few, ap axis_looks j)
-
+    module _ (o : Axis) {w : Scene} {d : Line} (l : i < 3) (u : LineOf w (slice_index_or all_axes i o) d) {f : Falls} (m : MinusAsked c (unit d.axis) n f) where
       -- this axis, and then those behind it
-      onward : {r : Tally Stop Levels} → Gives n (is_level c (unit (axis_at i)) >>= λ b. axes_left c (drop (i + 1) all_axes) (with_level v (axis_at i) b)) r → Gives looks (axes c) r
+      onward : {a : AxisAnswer} {r : Tally Stop Levels} → AxisJudged c (unit d.axis) f a
+          → (Gives n (is_level c (unit (slice_index_or all_axes i o))) (axis_tally a) → Gives n (is_level c (unit (slice_index_or all_axes i o)) >>= λ b. axes_left c (drop (i + 1) all_axes) (with_level v (slice_index_or all_axes i o) b)) r)
+          → Gives looks (axes c) r
       unfolding axes_left
-      onward k = h.rest (rw (axes-from i l) k)
+      onward g next = h.rest (rw (axes-from o i l) (next (rw (ap (λ (m : Line). m.axis) u.is) at (g.gives m))))
 
-      pub asking-stops : {r : Refused} → a ≡ AxisRefused r → AxesAsked c looks (IsRefused r)
-      asking-stops j = record { gives = onward (then-no _ (answer-gives j)); few = omega (arith, answer-few j) }
+      pub asking-stops : {r : Refused} → AxisJudged c (unit d.axis) f (Err r) → AxesAsked c looks (Err r)
+      asking-stops g = record { gives = onward g (λ a. then-no _ a); few = omega (arith, l, h.few, m.few, g.few) }
 
-      pub asking-more : {b : Bool} {k : ℕ} {w : Levels} → a ≡ IsAsked b k → w ≡ with_level v (axis_at i) b → Asking c looks (i + 1) w k
-      asking-more j d = rw d (record { count = omega arith; few = answer-few j; rest = λ k. onward (then-yes _ (answer-gives j) k) })
+      pub asking-more : {t : AxisTold} {w : Levels} → AxisJudged c (unit d.axis) f (Ok t) → w ≡ with_level v (slice_index_or all_axes i o) t.level → Asking c looks (i + 1) w t.looks
+      asking-more g e = rw e (record { count = omega (arith, l); few = omega (arith, h.few, m.few, g.few); rest = λ q. onward g (λ a. then-yes _ a q) })
 
 pub ruleset asking = (asking-begins, asking-ends, asking-stops, asking-more)

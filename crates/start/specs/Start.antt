@@ -1,37 +1,50 @@
 -- The start: what it tells of each axis and of all three, and from its beginning.
-use Rattle.std.specs.Prelude.{◌≡◌, Bool, true, false, not, [], ℕ, ◌+◌, ◌≤◌}
+use Rattle.std.specs.Prelude.{◌≡◌, Bool, true, false, not, [], ℕ, ◌+◌, ◌≤◌, Result, Ok, Err}
 use Rattle.rules.specs.declared.Vector.{Vector}
 use Rattle.rules.specs.declared.Levels.{Levels}
 use Rattle.rules.specs.declared.Refused.{Refused}
 use Rattle.rules.specs.Vectors.{◌⊕◌, minus, lay, unit0}
 use Rattle.rules.specs.Asked.{Asked, answered, ◌>>=◌, ◌>>◌}
-use Rattle.rules.specs.Walk.{Stop, stop, ensure, asked, Axis, axis0, axis1, axis2, levels, all_level, none_level, Probe, falls, is_level, axes, start, quick_start}
+use Rattle.rules.specs.declared.Axis.{Axis}
+use Rattle.rules.specs.declared.Axis.TheVariants.{Axis0 as axis0, Axis1 as axis1, Axis2 as axis2}
+use Rattle.rules.specs.Walk.{Stop, stop, ensure, asked, levels, all_level, none_level, Probe, falls, is_level, axes, start, quick_start}
 use Rattle.falls.specs.declared.Falls.{Falls}
 use Rattle.laws.specs.Tally.{Tally, yes, Gives, most_looks}
 use Rattle.falls.specs.Falls.{falls_tally, falls_looks}
 use Rattle.refusals.specs.Refusals.{refusal_of, refusal_tally}
-use Rattle.facing.specs.declared.Cleared.{Cleared}
-use Rattle.facing.specs.declared.Cleared.TheVariants.{Clear, Refused as ClearRefused}
-use Rattle.start.specs.declared.AxisAnswer.{AxisAnswer}
-use Rattle.start.specs.declared.AxisAnswer.TheVariants.{Asked as IsAsked, Refused as AxisRefused}
-use Rattle.start.specs.declared.Start.{Start}
-use Rattle.start.specs.declared.Start.TheVariants.{Begun, Refused as IsRefused}
+use Rattle.facing.specs.Facing.{Cleared}
+use Rattle.start.specs.declared.AxisTold.{AxisTold}
+use Rattle.start.specs.declared.Begun.{Begun}
+
+-- whether an axis is level, after so many looks; or a refusal
+abbrev pub AxisAnswer : Type 0
+AxisAnswer = Result AxisTold Refused
+
+abbrev pub axis_told : Bool → ℕ → AxisAnswer
+axis_told b n = Ok (record { level = b; looks = n })
 
 abbrev pub axis_tally : AxisAnswer → Tally Stop Bool
-axis_tally (IsAsked b n) = yes b n
-axis_tally (AxisRefused r) = refusal_tally r
+axis_tally (Ok a) = yes a.level a.looks
+axis_tally (Err r) = refusal_tally r
 
 abbrev pub axis_looks : AxisAnswer → ℕ
-axis_looks (IsAsked b n) = n
-axis_looks (AxisRefused r) = r.looks
+axis_looks (Ok a) = a.looks
+axis_looks (Err r) = r.looks
+
+-- which axes are level, after so many looks; or a refusal
+abbrev pub Start : Type 0
+Start = Result Begun Refused
+
+abbrev pub begun : Levels → ℕ → Start
+begun v n = Ok (record { level = v; looks = n })
 
 abbrev pub start_tally : Start → Tally Stop Levels
-start_tally (Begun v n) = yes v n
-start_tally (IsRefused r) = refusal_tally r
+start_tally (Ok b) = yes b.level b.looks
+start_tally (Err r) = refusal_tally r
 
 abbrev pub start_looks : Start → ℕ
-start_looks (Begun v n) = n
-start_looks (IsRefused r) = r.looks
+start_looks (Ok b) = b.looks
+start_looks (Err r) = r.looks
 
 -- refusal 7 for the axis of the unit vector e: q less it, laid in
 abbrev pub axis_refusal : Vector → Vector → Vector → Stop
@@ -55,11 +68,6 @@ abbrev pub with_level : Levels → Axis → Bool → Levels
 with_level v axis0 b = levels b v.y v.z
 with_level v axis1 b = levels v.x b v.z
 with_level v axis2 b = levels v.x v.y b
-
--- a part of them: told at its own axis, else as it was
-abbrev pub told : Bool → Bool → Bool → Bool
-told true b old = b
-told false b old = old
 
 module _ (c : Probe) where
   -- once minus the unit vector e does not fall
@@ -88,8 +96,8 @@ module _ (c : Probe) where
 
 -- ---- of a quick touch: once the corners were asked
 abbrev pub quickly : Cleared → Start
-quickly (Clear n) = Begun none_level n
-quickly (ClearRefused r) = IsRefused r
+quickly (Ok n) = begun none_level n
+quickly (Err r) = Err r
 
 abbrev pub start_of : Bool → Probe → Vector → Asked Stop Levels
 start_of true = quick_start

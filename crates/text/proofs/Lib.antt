@@ -1,3 +1,1 @@
-pub mod Steps
 pub mod Figures
-pub mod Signs

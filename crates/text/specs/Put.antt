@@ -1,12 +1,14 @@
 -- Bytes written into a lent buffer.
 use Rattle.std.specs.Prelude.{◌≡◌, List, ℕ, ◌+◌, ◌≤◌, length}
 use Rattle.std.proofs.lemmas.List.Edits.{sets}
+use Rattle.text.specs.declared.Writer.{Writer}
 
--- there is room for these bytes from `at` on
-pub record Room (out : List ℕ) (at : ℕ) (bytes : List ℕ) : Type 0 where
-  pub fits : at + length bytes ≤ length out
+-- there is room for these bytes from its place on
+pub record Room (w : Writer) (bytes : List ℕ) : Type 0 where
+  pub fits : w.at + length bytes ≤ length w.out.now
 
--- `after` is `before` with these bytes from `at` on, and `next` is the place behind them
-pub record Put (before : List ℕ) (at : ℕ) (bytes after : List ℕ) (next : ℕ) : Type 0 where
-  pub is : after ≡ sets before at bytes
-  pub past : next ≡ at + length bytes
+-- `after` is `before` with these bytes written, its place is behind them, and the same buffer is lent
+pub record Put (before : Writer) (bytes : List ℕ) (after : Writer) : Type 0 where
+  pub is : after.out.now ≡ sets before.out.now before.at bytes
+  pub past : after.at ≡ before.at + length bytes
+  pub lent : after.out.ghost_name ≡ before.out.ghost_name

@@ -1,65 +1,54 @@
--- The unit vectors laid in: a sign times itself is 1, and the rank of a unit vector is a sign times a part of the ranks.
-use mathlib.Core.Path.{◌≡◌}
-use mathlib.Core.Logic.{inl, inr}
-use mathlib.Core.List.{List, [], ◌∷◌}
-use Prim.Native.Nat.{ℕ}
-use native.Mathlib.Omega.{arith}
-use lib.Dec.{lit≤}
-use lib.IntN.{ℤ, pos, ◌*ℤ◌}
-use mir.Syntax.{w32}
-use mir.Val.{SFits}
+-- The unit vectors laid in: laid back they are the unit vectors, and the rank of one is a sign times a part of the ranks.
+use Rattle.std.specs.Prelude.{◌≡◌, refl, List, [], ◌∷◌, ℕ, ℤ, ◌*ℤ◌}
+use Rattle.std.proofs.Common.{sym, ap, ◌∙◌, lit≤, SFits}
+use Rattle.std.specs.Int.{w32}
 use Rattle.integers.specs.Machine.{machine, fits, value}
 use Rattle.integers.specs.Sizes.{Within, within_wider}
-use Rattle.integers.specs.Reify.{byring, sides}
 use Rattle.rules.specs.declared.Vector.{Vector}
-use Rattle.rules.specs.Vectors.{vector, dot, lay}
-use Rattle.rules.specs.Walk.{triangle}
-use Rattle.laws.specs.Frames.{IsSign, Signs}
+use Rattle.rules.specs.declared.Axis.{Axis}
+use Rattle.rules.specs.declared.Axis.TheVariants.{Axis0 as axis0, Axis1 as axis1, Axis2 as axis2}
+use Rattle.rules.specs.Vectors.{dot, lay}
+use Rattle.rules.specs.Walk.{triangle, unit}
+use Rattle.laws.specs.Parts.{part, part-lay, dot-unit}
+use Rattle.laws.specs.Frames.{Signs, lay-lay, lay-dot}
 use Rattle.laws.specs.Bounds.{Bounded}
+use Rattle.axis.specs.Along.{part-within}
 use Rattle.falls.specs.declared.Scene.{Scene}
 use Rattle.falls.specs.Scene.{Ready}
-use Rattle.falls.specs.Sizes.{sign-bounded, scene-ranks}
+use Rattle.falls.specs.Sizes.{signs-bounded, scene-ranks}
 use Rattle.choice.specs.Numbers.{from_bits}
-use Rattle.walk.specs.Walk.{Units}
+use Rattle.round.specs.declared.Corner.{Corner}
+use Rattle.walk.specs.Walk.{IsUnit, Units}
 
--- ---- as the code computes
-module _ {a b : ℤ} (s : IsSign a) (h : Within 65536 b) where
+-- ---- one of them
+rank-of-unit : (s r : Vector) (k : Axis) → part k s *ℤ part k r ≡ dot r (lay s (unit k))
+rank-of-unit s r k = sym (part-lay k s r) ∙ sym (dot-unit (lay s r) k) ∙ lay-dot s r (unit k)
+
+-- as the code computes
+module _ {s r : Vector} {a b : ℤ} (g : Signs s) (h : Bounded 65536 r) (k : Axis) (p : a ≡ part k s) (q : b ≡ part k r) where
   pub rank-fits : SFits w32 (from_bits a *ℤ from_bits b)
-  rank-fits = let k = sign-bounded a s in fits (search machine depth 30 fits 5000) tt
+  rank-fits =
+      let x : Within 1 a = rw p (part-within (signs-bounded g) k) in
+      let y : Within 65536 b = rw q (part-within h k) in
+      fits (search machine depth 30 fits 5000) tt
 
-  rank-read : from_bits (from_bits a *ℤ from_bits b) ≡ a *ℤ b
-  rank-read = let k = sign-bounded a s in value (search machine depth 30 fits 5000) tt
+  pub unit-made : {u v : Vector} → u ≡ unit k → v ≡ lay s u → IsUnit s r k (record { at = v; rank = from_bits (from_bits a *ℤ from_bits b) })
+  unit-made e f =
+      let x : Within 1 a = rw p (part-within (signs-bounded g) k) in
+      let y : Within 65536 b = rw q (part-within h k) in
+      let read : from_bits (from_bits a *ℤ from_bits b) ≡ a *ℤ b = value (search machine depth 30 fits 5000) tt in
+      rw (f, e) record { is = refl; ranked = read ∙ rw (p, q) (rank-of-unit s r k) }
 
-sign_read : {a : ℤ} → IsSign a → from_bits a ≡ a
-sign_read {a} s = let k = sign-bounded a s in value (search machine depth 30 fits 5000) tt
-
--- ---- as they are
-abbrev units_with : Vector → Vector → List ℤ
-units_with s p = s.x ∷ pos 0 ∷ pos 0 ∷ p.x ∷ pos 0 ∷ s.y ∷ pos 0 ∷ p.y ∷ pos 0 ∷ pos 0 ∷ s.z ∷ p.z ∷ []
-
-square : (a : ℤ) → IsSign a → a *ℤ a ≡ pos 1
-square a (inl e) = rw e
-square a (inr e) = rw e
-
-nothing : (a : ℤ) → a *ℤ pos 0 ≡ pos 0
-nothing a = byring (a ∷ []) (search sides depth 40 fits 5000) tt
-
-units-are : (s r : Vector) → Signs s → Units s r (units_with s (lay s r))
-unfolding lay dot
-units-are s r g = record {
-  are = λ i. triangle (vector (square s.x g.of_x i) (nothing s.y i) (nothing s.z i)) (vector (nothing s.x i) (square s.y g.of_y i) (nothing s.z i)) (vector (nothing s.x i) (nothing s.y i) (square s.z g.of_z i));
-  ranked = record {
-    rank0 = byring (s.x ∷ r.x ∷ r.y ∷ r.z ∷ []) (search sides depth 40 fits 5000) tt;
-    rank1 = byring (s.y ∷ r.x ∷ r.y ∷ r.z ∷ []) (search sides depth 40 fits 5000) tt;
-    rank2 = byring (s.z ∷ r.x ∷ r.y ∷ r.z ∷ []) (search sides depth 40 fits 5000) tt;
-  };
-  whole = omega arith;
+-- ---- all of them
+pub units-made : {s r : Vector} {a b c : Corner} → Signs s → IsUnit s r axis0 a → IsUnit s r axis1 b → IsUnit s r axis2 c → Units s r (a ∷ b ∷ c ∷ [])
+units-made {s} g x y z = record {
+  are = λ i. triangle (at_unit x i) (at_unit y i) (at_unit z i);
+  ranked = record { rank0 = x.ranked; rank1 = y.ranked; rank2 = z.ranked };
+  whole = refl;
 }
-
-pub units-made : {s r : Vector} → Signs s → Bounded 65536 r
-    → Units s r (units_with (vector (from_bits s.x) (from_bits s.y) (from_bits s.z)) (vector (from_bits (from_bits s.x *ℤ from_bits r.x)) (from_bits (from_bits s.y *ℤ from_bits r.y)) (from_bits (from_bits s.z *ℤ from_bits r.z))))
-unfolding lay
-units-made {s} {r} g h = rw (rank-read g.of_x h.in-x, rank-read g.of_y h.in-y, rank-read g.of_z h.in-z, sign_read g.of_x, sign_read g.of_y, sign_read g.of_z) (units-are s r g)
+  where
+    at_unit : {r : Vector} {k : Axis} {a : Corner} → IsUnit s r k a → lay s a.at ≡ unit k
+    at_unit {k = k} h = ap (lay s) h.is ∙ lay-lay s (unit k) g
 
 -- ---- what a scene has of them
 pub scene-fits : {v : Scene} {bytes : List ℕ} → Ready v bytes → Signs v.signs × Bounded 65536 v.grid.ranks

@@ -6,82 +6,85 @@ ghost use Rattle.rules.specs.Walk.{remaining};
 ghost use Rattle.laws.specs.Bounds.{Bounded};
 ghost use Rattle.laws.specs.Frames.{Signs};
 ghost use Rattle.laws.specs.Tally.{Countable};
-ghost use Rattle.falls.specs.Scene.{probe_of, Ready};
-ghost use Rattle.walk.specs.Walk.{Units, walk_questions, allowed, Walks};
+ghost use Rattle.falls.specs.Scene.{probe_of};
+ghost use Rattle.walk.specs.Walk.{IsUnit, Units, walk_questions, allowed, Walks};
 
-use falls::Scene;
-use round::Round;
-use rules::{Levels, Refused, Triangle, Vector};
+use falls::Probe;
+use round::Corner;
+use rules::{Axis, Levels, Refusal, Refused, Triangle, Vector};
 
-// No pair falls: the triangle laid in, the steps and the looks; or a refusal.
+// No pair falls: the triangle laid in, the steps and the looks.
 #[derive(Clone, Copy)]
-pub enum Walked {
-    Ended(Triangle, u32, u32),
-    Refused(Refused),
+pub struct End {
+    pub triangle: Triangle,
+    pub steps: u32,
+    pub looks: u32,
 }
 
-// The unit vectors laid in, with their ranks.
-fn unit_vectors(s: Vector, ranks: Vector) -> [i32; 12]
+// An axis's unit vector laid in, with its rank.
+fn unit_corner(axis: Axis, s: Vector, ranks: Vector) -> Corner
+    requires { Signs s × Bounded 65536 ranks }
+    ensures { IsUnit s ranks axis result }
+{
+    Corner {
+        at: space::lay(s, axis::unit_of(axis)),
+        rank: axis::part_of(s, axis) * axis::part_of(ranks, axis),
+    }
+}
+
+fn unit_vectors(s: Vector, ranks: Vector) -> [Corner; 3]
     requires { Signs s × Bounded 65536 ranks }
     ensures { Units s ranks result }
 {
-    let x = s.x;
-    let y = s.y;
-    let z = s.z;
-    let a = x * ranks.x;
-    let b = y * ranks.y;
-    let c = z * ranks.z;
-    [x, 0, 0, a, 0, y, 0, b, 0, 0, z, c]
+    [
+        unit_corner(Axis::Axis0, s, ranks),
+        unit_corner(Axis::Axis1, s, ranks),
+        unit_corner(Axis::Axis2, s, ranks),
+    ]
 }
 
 fn count_remaining(level: Levels) -> u32
     ensures { result ≡ length (remaining level) }
 {
-    let x = !level.x as u32;
-    let y = !level.y as u32;
-    let z = !level.z as u32;
-    x + y + z
+    !level.x as u32 + !level.y as u32 + !level.z as u32
 }
 
 // The reach less the number of remaining axes, none if that is below zero.
 fn steps_allowed(reach: u32, level: Levels) -> u32
     ensures { result ≡ allowed reach level }
 {
-    let axes = count_remaining(level);
-    if reach < axes { 0 } else { reach - axes }
+    reach.saturating_sub(count_remaining(level))
 }
 
 // Begin with the unit vectors and zero steps. The triangle stays laid in, in one array with its ranks.
-pub fn walk_on(scene: Scene, bytes: &[u8], level: Levels, looks: u32) -> Walked
-    requires { Ready scene bytes.now × Countable walk_questions looks }
-    ensures { Walks (probe_of scene bytes.now) scene.reach level looks result }
+pub fn walk_on(probe: &Probe, level: Levels, looks: u32) -> Result<End, Refused>
+    requires { Countable walk_questions looks }
+    ensures { Walks (probe_of probe.now.scene probe.now.bytes.now) probe.now.scene.reach level looks result }
 {
-    let q = scene.apex;
-    let s = scene.signs;
-    let grid = scene.grid;
+    let scene = probe.scene;
     let limit = steps_allowed(scene.reach, level);
-    let mut m = unit_vectors(s, grid.ranks);
+    let mut m = unit_vectors(scene.signs, scene.grid.ranks);
     let mut steps: u32 = 0;
     let mut n = looks;
-    let end = loop {
-        let r = round::ask_round(scene, bytes, level, &m, n);
-        match r {
-            Round::Stopped(p, k) => {
-                break Walked::Refused(refusals::refusal(8, p, steps, k));
+    loop {
+        let round = match round::ask_round(probe, level, &m, n) {
+            Ok(round) => round,
+            Err(outside) => {
+                return Err(refusals::refuse(Refusal::Edge, outside.place, steps, outside.looks));
             }
-            Round::Asked(best, k) => {
-                let pair = best.pair;
-                if pair == 6 {
-                    break Walked::Ended(round::triangle_of(&m), steps, k);
-                }
-                if steps == limit {
-                    break Walked::Refused(refusals::refusal(9, q, steps, k));
-                }
-                round::step_by(&mut m, pair);
-                steps = steps + 1;
-                n = k;
-            }
+        };
+        let Some(best) = round.best else {
+            return Ok(End {
+                triangle: round::triangle_of(&m),
+                steps,
+                looks: round.looks,
+            });
+        };
+        if steps == limit {
+            return Err(refusals::refuse(Refusal::Steps, scene.apex, steps, round.looks));
         }
-    };
-    end
+        round::step_by(&mut m, best.pair);
+        steps += 1;
+        n = round.looks;
+    }
 }

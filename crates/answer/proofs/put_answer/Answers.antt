@@ -2,8 +2,8 @@
 use Rattle.answer.proofs.Words.{told-accepted, told-refused}
 use Rattle.answer.proofs.put_answer.Goals as goal
 
-pub returns-in-Accepted : goal.returns-in-Accepted
-returns-in-Accepted c = search told-accepted
+pub returns-in-Ok : goal.returns-in-Ok
+returns-in-Ok c = search told-accepted
 
-pub returns-in-Refused : goal.returns-in-Refused
-returns-in-Refused c = search told-refused
+pub returns-in-Err : goal.returns-in-Err
+returns-in-Err c = search told-refused

@@ -1,22 +1,14 @@
--- `call::end_call` meets its contract: by whether the call is a check.
-use mathlib.Core.Path.{◌≡◌, refl, ap, ◌∙◌}
-use mathlib.Core.List.{List}
-use Prim.Native.Nat.{ℕ}
-use Rattle.rules.specs.declared.Vector.{Vector}
-use Rattle.rules.specs.declared.Levels.{Levels}
-use Rattle.falls.specs.declared.Scene.{Scene}
-use Rattle.end.specs.Answers.{is-answer-from}
-use Rattle.call.specs.declared.Call.{Call}
-use Rattle.call.specs.declared.Call.TheVariants.{Pick, Touch, Check, Walk}
-use Rattle.call.specs.declared.Outcome.TheVariants.{Ended}
-use Rattle.call.specs.Calls.{walk_end, end_of}
+-- `call::end_call` meets its contract: a call that is no check walks to the end.
+use mathlib.Core.Path.{sym, ap, ◌∙◌}
+use Rattle.std.proofs.lemmas.Result.{err_from_is_err_and}
+use Rattle.call.specs.Calls.{walked}
+use Rattle.call.proofs.Answers.{walks-on}
 use Rattle.call.proofs.end_call.Goals as goal
 
-others-walk : (call : Call) (v : Scene) (bytes : List ℕ) (level : Levels) (n : ℕ) → ((p : Vector) → call ≡ Check p → ⊥) → walk_end v bytes level n ≡ end_of call v bytes level n
-others-walk (Pick p) v bytes level n k = refl
-others-walk (Touch p) v bytes level n k = refl
-others-walk (Check p) v bytes level n k = absurd (k p refl)
-others-walk (Walk d) v bytes level n k = refl
+pub returns-in_err-accepted : goal.returns-in_err-accepted
+returns-in_err-accepted c =
+    let p = err_from_is_err_and c.from_residual.result c.from_residual.ensures.1 in
+    rw (p.1, p.2) (ap walked (sym c.in_err-accepted.was) ∙ walks-on c.args.probe.now.scene c.args.probe.now.bytes.now c.in_default.not-Check c.walk_to_end.ensures)
 
-pub returns-in_default : goal.returns-in_default
-returns-in_default c = ap Ended (is-answer-from _ c.walk_to_end.ensures.gives) ∙ others-walk c.args.call c.args.scene c.args.bytes.now c.args.level c.args.looks c.in_default.not-Check
+pub returns : goal.returns
+returns c = ap walked (sym c.in_ok-accepted.was) ∙ walks-on c.args.probe.now.scene c.args.probe.now.bytes.now c.in_default.not-Check c.walk_to_end.ensures

@@ -11,8 +11,8 @@ ruleset shown = (promise-back, shows)
 pub returns-then-s-eq0 : goal.returns-then-s-eq0
 returns-then-s-eq0 c = search all-zero
 
-pub lit-l-requires : goal.lit-l-requires
-lit-l-requires c = search lit-asks
+pub lit-requires : goal.lit-requires
+lit-requires c = search lit-asks
 
 pub returns-then-all_in_range : goal.returns-then-all_in_range
 returns-then-all_in_range c = search shown

@@ -1,14 +1,10 @@
 -- A whole number up to 32768 is a float as it is.
 use native.Mathlib.Nat.{le_trans}
 use mathlib.Core.Bool.{false}
-use lib.Dec.{lit≤, le→leb}
-use lib.Ieee.{binary32, in_float, of_int}
+use lib.Dec.{lit≤}
+use lib.Ieee.{binary32, of_int}
 use lib.Ieee.Back.{round_whole}
 use Rattle.display.proofs.whole.Goals as goal
-
-pub int_to_float-result : goal.int_to_float-result
-unfolding in_float
-int_to_float-result c = le→leb _ _ (le_trans c.requires (lit≤ tt))
 
 pub returns : goal.returns
 unfolding of_int

@@ -12,14 +12,14 @@ normal_of-whole-requires c = search ends-fit
 pub level_out-n-requires : goal.level_out-n-requires
 level_out-n-requires c = search ends-fit
 
-pub size-sum-requires : goal.size-sum-requires
-size-sum-requires c = search ends-fit
+pub size-requires : goal.size-requires
+size-requires c = search ends-fit
 
 pub lay-laid-requires : goal.lay-laid-requires
 lay-laid-requires c = search ends-fit
 
-pub returns-then-sum-reach : goal.returns-then-sum-reach
-returns-then-sum-reach c = search ending
+pub returns-then-size-scene : goal.returns-then-size-scene
+returns-then-size-scene c = search ending
 
-pub returns-else-sum-reach : goal.returns-else-sum-reach
-returns-else-sum-reach c = search ending
+pub returns : goal.returns
+returns c = search ending

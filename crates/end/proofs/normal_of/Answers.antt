@@ -1,5 +1,5 @@
 -- `end::normal_of` meets its contract: three cross products, added up.
-use Rattle.end.proofs.Ends.{normal-is, two-fit, three-fit}
+use Rattle.end.proofs.Ends.{two-fit, three-fit}
 use Rattle.end.proofs.normal_of.Goals as goal
 
 pub add-requires : goal.add-requires
@@ -10,8 +10,3 @@ pub add-requires-2 : goal.add-requires-2
 add-requires-2 c =
     three-fit c.args.m c.cross-a.ensures c.cross-b.ensures c.cross-c.ensures
     c.requires c.add.ensures
-
-pub returns : goal.returns
-returns c =
-    let m = c.args.m in
-    normal-is m c.cross-a.ensures c.cross-b.ensures c.cross-c.ensures c.add.ensures c.add-2.ensures

@@ -1,6 +1,6 @@
--- `facing::ask_corners` meets its contract: corner by corner.
-use Rattle.facing.proofs.Corners.{three-corners}
+-- `facing::ask_corners` meets its contract. The loop's invariant: the corners from here on give what all give.
+use Rattle.facing.proofs.Corners.{asking}
 use Rattle.facing.proofs.ask_corners.Goals as goal
 
 pub returns : goal.returns
-returns c = search three-corners
+returns c = search asking

@@ -2,11 +2,11 @@
 use Rattle.firm.proofs.Clearing.{facing-start}
 use Rattle.firm.proofs.face.Goals as goal
 
-pub returns-then-is_filled-2 : goal.returns-then-is_filled-2
-returns-then-is_filled-2 c = search facing-start
+pub returns-then-not-is_filled : goal.returns-then-not-is_filled
+returns-then-not-is_filled c = search facing-start
 
-pub returns-else-is_filled-2 : goal.returns-else-is_filled-2
-returns-else-is_filled-2 c = search facing-start
+pub returns-then-is_filled : goal.returns-then-is_filled
+returns-then-is_filled c = search facing-start
 
-pub returns-else-is_filled : goal.returns-else-is_filled
-returns-else-is_filled c = search facing-start
+pub returns : goal.returns
+returns c = search facing-start

@@ -1,9 +1,6 @@
--- `firm::firm_of` meets its contract: by whether the pick was accepted.
-use Rattle.firm.proofs.Answers.{of-answer}
+-- `firm::firm_of` meets its contract: a refused pick has no footing.
+use Rattle.firm.proofs.Answers.{of-refused}
 use Rattle.firm.proofs.firm_of.Goals as goal
 
-pub returns-in-Accepted : goal.returns-in-Accepted
-returns-in-Accepted c = search of-answer
-
-pub returns-in-Refused : goal.returns-in-Refused
-returns-in-Refused c = search of-answer
+pub returns-in-Err : goal.returns-in-Err
+returns-in-Err c = search of-refused

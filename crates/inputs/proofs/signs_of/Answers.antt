@@ -10,6 +10,6 @@ pub returns : goal.returns
 unfolding signs
 returns c =
     vector-eq
-    (back w32 c.sign_of-x.result c.sign_of-x.type_inv ∙ c.sign_of-x.ensures)
-    (back w32 c.sign_of-y.result c.sign_of-y.type_inv ∙ c.sign_of-y.ensures)
-    (back w32 c.sign_of-z.result c.sign_of-z.type_inv ∙ c.sign_of-z.ensures)
+    (back w32 c.sign_of.result c.sign_of.type_inv ∙ c.sign_of.ensures)
+    (back w32 c.sign_of-2.result c.sign_of-2.type_inv ∙ c.sign_of-2.ensures)
+    (back w32 c.sign_of-3.result c.sign_of-3.type_inv ∙ c.sign_of-3.ensures)

@@ -1,12 +1,6 @@
--- `lean::last_power` meets its contract. The loop keeps `Lasting`; the powers below 512 that are left are the measure.
-use Rattle.lean.proofs.Lasting.{lasting-starts, lasting-more, lasting-ends}
+-- `lean::last_power` meets its contract: the next power of two is the last of the powers.
+use Rattle.laws.specs.Powers.{last-power-is}
 use Rattle.lean.proofs.last_power.Goals as goal
 
-pub loop-power-init : goal.loop-power-init
-loop-power-init c = lasting-starts
-
-pub loop-power-preserved : goal.loop-power-preserved
-loop-power-preserved c = search lasting-more
-
 pub returns : goal.returns
-returns c = search lasting-ends
+returns c = search last-power-is

@@ -1,11 +1,6 @@
--- `read_digits` says the number of one to ten digits. What is left of them is the measure.
-use Prim.Native.Nat.{◌-◌}
-use lib.ListN.{length}
+-- `read_digits` says the number of the digits that were read.
 use Rattle.line.proofs.Counting.{Reading}
 use Rattle.line.proofs.read_digits.Given as goal
 
-abbrev pub invariant-loop-i : goal.invariant-loop-i
-invariant-loop-i l = Reading l.part l.i l.v
-
-abbrev pub decreases-loop-i : goal.decreases-loop-i
-decreases-loop-i l = length l.part - l.i
+abbrev pub invariant-loop-b : goal.invariant-loop-b
+invariant-loop-b l = Reading l.part l.b-index l.v

@@ -1,12 +1,21 @@
 -- Each way out of `read_number` is the definition's number: of an empty part, with a minus, without.
-use Rattle.line.proofs.Numbers.{empty, with-minus, without-minus}
+use Rattle.line.proofs.Numbers.{empty, opposite-fits, minus-none, minus-some, plus-none, plus-some}
 use Rattle.line.proofs.read_number.Goals as goal
 
-pub returns-then-part-lt1 : goal.returns-then-part-lt1
-returns-then-part-lt1 c = search empty
+pub returns-then-is_empty : goal.returns-then-is_empty
+returns-then-is_empty c = search empty
+
+pub returns-in_err-read_digits : goal.returns-in_err-read_digits
+returns-in_err-read_digits c = search (minus-none, c.in_err-read_digits.ensures)
+
+pub overflow_sub-branch : goal.overflow_sub-branch
+overflow_sub-branch c = search (opposite-fits, c.in_ok-read_digits.ensures)
 
 pub returns-then-part-eq45 : goal.returns-then-part-eq45
-returns-then-part-eq45 c = search with-minus
+returns-then-part-eq45 c = search (minus-some, c.in_ok-read_digits.ensures)
+
+pub returns-in_err-read_digits-2 : goal.returns-in_err-read_digits-2
+returns-in_err-read_digits-2 c = search (plus-none, c.in_err-read_digits-2.ensures)
 
 pub returns : goal.returns
-returns c = search without-minus
+returns c = search (plus-some, c.in_ok-read_digits-2.ensures)

@@ -1,25 +1,20 @@
 -- `p4_read::find_rows` meets its contract: by the header, its sizes beside those asked for, and the input's length.
-use native.Mathlib.Omega.{arith}
-use Rattle.p4_read.proofs.Finding.{rows_none, rows_inside, rows-wide, rows-high, rows_short, rows-there}
+use Rattle.std.proofs.Common.{arith, rules}
+use Rattle.p4_read.proofs.Finding.{rows_none, rows_inside, rows-other, rows_short, rows-there}
 use Rattle.p4_read.proofs.find_rows.Goals as goal
 
-pub returns-then-w-width : goal.returns-then-w-width
-returns-then-w-width c = search rows-wide
+pub returns-in_err-header : goal.returns-in_err-header
+returns-in_err-header c = search (rules, rows_none, c.in_err-header.ensures)
 
-pub returns-then-h-height : goal.returns-then-h-height
-returns-then-h-height c = search rows-high
+pub returns-then-header-size : goal.returns-then-header-size
+returns-then-header-size c = search (rows-other, c.in_ok-header.ensures)
 
 -- the place behind the rows is a number, as the rows begin inside the input
-pub overflow_add-i : goal.overflow_add-i
-overflow_add-i c =
-    let begin = rows_inside 0 0 c.read_header-header.ensures c.in-Sizes.is in
-    omega (arith, begin, c.slice_bytes-size.ensures.small)
+pub overflow_add-header : goal.overflow_add-header
+overflow_add-header c = omega (arith, rows_inside c.in_ok-header.ensures, c.bytes.ensures.small)
 
-pub returns-then-src-i : goal.returns-then-src-i
-returns-then-src-i c = search rows_short
+pub returns-then-src-header : goal.returns-then-src-header
+returns-then-src-header c = search (rows_short, c.in_ok-header.ensures)
 
-pub returns-in-NoSizes : goal.returns-in-NoSizes
-returns-in-NoSizes c = search rows_none
-
-pub returns-else-src-i : goal.returns-else-src-i
-returns-else-src-i c = search rows-there
+pub returns : goal.returns
+returns c = search (rows-there, c.in_ok-header.ensures)

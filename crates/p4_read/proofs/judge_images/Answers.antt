@@ -1,29 +1,26 @@
--- `p4_read::judge_images` meets its contract: the loop keeps `Keeping`, an image at a time. The images that may follow are the measure.
-use native.Mathlib.Omega.{arith}
-use Rattle.p4_read.proofs.Keeping.{keeping_start, keeping-range, keeping-full, keeping-not, rows_in, keeping-next, keeping-end}
+-- `p4_read::judge_images` meets its contract: the loop keeps `Keeping`, an image at a time.
+use Rattle.std.proofs.Common.{arith, refl, rules}
+use Rattle.p4_read.proofs.Keeping.{keeping_start, keeping-end, keeping-all, keeping-full, keeping-not, rows_in, keeping-next}
 use Rattle.p4_read.proofs.judge_images.Goals as goal
 
-pub loop-at-init : goal.loop-at-init
-loop-at-init c = search keeping_start
+pub loop-depth-init : goal.loop-depth-init
+loop-depth-init c = search keeping_start
 
-pub returns-then-z-eq256 : goal.returns-then-z-eq256
-returns-then-z-eq256 c = search keeping-full
+pub returns-then-at-src : goal.returns-then-at-src
+returns-then-at-src c = search keeping-end
 
-pub find_rows-found-requires : goal.find_rows-found-requires
-find_rows-found-requires c = search keeping-range
+pub loop-depth-preserved : goal.loop-depth-preserved
+loop-depth-preserved c = search (keeping-next, c.in_ok-at.ensures)
 
-pub returns-in-NotAt : goal.returns-in-NotAt
-returns-in-NotAt c = search keeping-not
+pub returns-in_err-at : goal.returns-in_err-at
+returns-in_err-at c = search (rules, keeping-not, c.in_err-at.ensures)
 
 -- the place behind the image's rows is a number, as they lie inside the input
 pub overflow_add-at : goal.overflow_add-at
-overflow_add-at c =
-    let size = c.slice_bytes-size.ensures in
-    let r = rows_in c.find_rows-found.ensures c.in-At.is size in
-    omega arith
+overflow_add-at c = omega (arith, rows_in c.in_ok-at.ensures refl, c.bytes.ensures.is)
 
-pub loop-at-preserved : goal.loop-at-preserved
-loop-at-preserved c = search keeping-next
+pub returns-then-at-src-2 : goal.returns-then-at-src-2
+returns-then-at-src-2 c = search keeping-full
 
 pub returns : goal.returns
-returns c = search keeping-end
+returns c = search keeping-all

@@ -2,21 +2,20 @@
 use Rattle.p4_write.proofs.Headers.{room-magic, room-width, room-space, room-height, room-end, header-put}
 use Rattle.p4_write.proofs.put_header.Goals as goal
 
-pub put-a-requires : goal.put-a-requires
-put-a-requires c = search room-magic
-
-pub put_number-b-requires : goal.put_number-b-requires
-put_number-b-requires c = search room-width
-
-pub put-c-requires : goal.put-c-requires
-put-c-requires c = search room-space
-
-pub put_number-d-requires : goal.put_number-d-requires
-put_number-d-requires c = search room-height
-
 pub put-requires : goal.put-requires
-put-requires c = search room-end
+put-requires c = search room-magic
+
+pub put_number-requires : goal.put_number-requires
+put_number-requires c = search room-width
+
+pub put-requires-2 : goal.put-requires-2
+put-requires-2 c = search room-space
+
+pub put_number-requires-2 : goal.put_number-requires-2
+put_number-requires-2 c = search room-height
+
+pub put-requires-3 : goal.put-requires-3
+put-requires-3 c = search room-end
 
 pub returns : goal.returns
-returns c =
-    header-put c.requires c.put-a.ensures c.put_number-b.ensures c.put-c.ensures c.put_number-d.ensures c.put.ensures
+returns c = header-put _ _ c.requires c.put.ensures c.put_number.ensures c.put-2.ensures c.put_number-2.ensures c.put-3.ensures

@@ -1,13 +1,11 @@
--- What `firm_wedge` promises of its answer, flattened; the pick is the one handed back, and the parameters are read back from their bits.
+-- What `firm_solid` promises of its answer, flattened, of the pick that was handed back; the parameters are read back from their bits.
 use mathlib.Core.Path.{ap, ◌∙◌}
 use mir.Facts.{to_z-of_z}
 use Rattle.flat.specs.Flat.{flat_firm}
+use Rattle.panel.proofs.Read.{wedge-read}
 use Rattle.panel.proofs.ulgenzhir_firm_wedge.Goals as goal
 
 pub returns : goal.returns
 returns c =
     let own = c.ranges in
-    record {
-      is = c.flatten_firm.ensures
-          ∙ ap flat_firm (rw (c.handed_pick-answer.ensures, c.wedge_of-w.ensures, to_z-of_z own.a, to_z-of_z own.b, to_z-of_z own.c, to_z-of_z own.h, to_z-of_z own.frame, to_z-of_z own.reach) at c.firm_wedge.ensures.is);
-    }
+    record { is = c.into-2.ensures ∙ ap flat_firm (rw (c.into.ensures, wedge-read own.a own.b own.c own.h c.wedge_of.ensures, to_z-of_z own.frame, to_z-of_z own.reach) at c.firm_solid.ensures.is) }

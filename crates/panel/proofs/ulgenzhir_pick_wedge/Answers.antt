@@ -1,13 +1,11 @@
--- What `pick_wedge` promises of its answer, flattened; the parameters are read back from their bits.
+-- What `pick_solid` promises of its answer, flattened; the parameters are read back from their bits.
 use mathlib.Core.Path.{ap, ◌∙◌}
 use mir.Facts.{to_z-of_z}
 use Rattle.flat.specs.Flat.{flat_pick}
+use Rattle.panel.proofs.Read.{wedge-read, point-read}
 use Rattle.panel.proofs.ulgenzhir_pick_wedge.Goals as goal
 
 pub returns : goal.returns
 returns c =
     let own = c.ranges in
-    record {
-      is = c.flatten_pick.ensures
-          ∙ ap flat_pick (rw (c.point-p.ensures, c.wedge_of-w.ensures, to_z-of_z own.a, to_z-of_z own.b, to_z-of_z own.c, to_z-of_z own.h, to_z-of_z own.px, to_z-of_z own.py, to_z-of_z own.pz, to_z-of_z own.frame, to_z-of_z own.reach) at c.pick_wedge.ensures.is);
-    }
+    record { is = c.into.ensures ∙ ap flat_pick (rw (wedge-read own.a own.b own.c own.h c.wedge_of.ensures, point-read own.px own.py own.pz c.point-p.ensures, to_z-of_z own.frame, to_z-of_z own.reach) at c.pick_solid.ensures.is) }

@@ -1,13 +1,11 @@
--- What `touch_stack` promises of its answer, flattened; the parameters are read back from their bits.
+-- What `touch_solid` promises of its answer, flattened; the parameters are read back from their bits.
 use mathlib.Core.Path.{ap, ◌∙◌}
 use mir.Facts.{to_z-of_z}
 use Rattle.flat.specs.Flat.{flat_touch}
+use Rattle.panel.proofs.Read.{stack-read, point-read}
 use Rattle.panel.proofs.ulgenzhir_touch_stack.Goals as goal
 
 pub returns : goal.returns
 returns c =
     let own = c.ranges in
-    record {
-      is = c.flatten_touch.ensures
-          ∙ ap flat_touch (rw (c.point-p.ensures, c.stack_of-k.ensures, to_z-of_z own.width, to_z-of_z own.height, to_z-of_z own.depth, to_z-of_z own.px, to_z-of_z own.py, to_z-of_z own.pz, to_z-of_z own.frame, to_z-of_z own.reach) at c.touch_stack.ensures.is);
-    }
+    record { is = c.into.ensures ∙ ap flat_touch (rw (stack-read own.width own.height own.depth c.stack_of.ensures, point-read own.px own.py own.pz c.point-p.ensures, to_z-of_z own.frame, to_z-of_z own.reach) at c.touch_solid.ensures.is) }

@@ -1,13 +1,11 @@
--- What `walk_stack` promises of its answer, flattened; the parameters are read back from their bits.
+-- What `walk_solid` promises of its answer, flattened, from the ready start that was handed in; the parameters are read back from their bits.
 use mathlib.Core.Path.{ap, ◌∙◌}
 use mir.Facts.{to_z-of_z}
 use Rattle.flat.specs.Flat.{flat_pick}
+use Rattle.panel.proofs.Read.{stack-read}
 use Rattle.panel.proofs.ulgenzhir_walk_stack.Goals as goal
 
 pub returns : goal.returns
 returns c =
     let own = c.ranges in
-    record {
-      is = c.flatten_pick.ensures
-          ∙ ap flat_pick (rw (c.ready_of-d.ensures, c.stack_of-k.ensures, to_z-of_z own.width, to_z-of_z own.height, to_z-of_z own.depth, to_z-of_z own.frame, to_z-of_z own.reach) at c.walk_stack.ensures.is);
-    }
+    record { is = c.into-2.ensures ∙ ap flat_pick (rw (c.into.ensures, stack-read own.width own.height own.depth c.stack_of.ensures, to_z-of_z own.frame, to_z-of_z own.reach) at c.walk_solid.ensures.is) }

@@ -1,13 +1,11 @@
--- What `walk_wedge` promises of its answer, flattened; the parameters are read back from their bits.
+-- What `walk_solid` promises of its answer, flattened, from the ready start that was handed in; the parameters are read back from their bits.
 use mathlib.Core.Path.{ap, ◌∙◌}
 use mir.Facts.{to_z-of_z}
 use Rattle.flat.specs.Flat.{flat_pick}
+use Rattle.panel.proofs.Read.{wedge-read}
 use Rattle.panel.proofs.ulgenzhir_walk_wedge.Goals as goal
 
 pub returns : goal.returns
 returns c =
     let own = c.ranges in
-    record {
-      is = c.flatten_pick.ensures
-          ∙ ap flat_pick (rw (c.ready_of-d.ensures, c.wedge_of-w.ensures, to_z-of_z own.a, to_z-of_z own.b, to_z-of_z own.c, to_z-of_z own.h, to_z-of_z own.frame, to_z-of_z own.reach) at c.walk_wedge.ensures.is);
-    }
+    record { is = c.into-2.ensures ∙ ap flat_pick (rw (c.into.ensures, wedge-read own.a own.b own.c own.h c.wedge_of.ensures, to_z-of_z own.frame, to_z-of_z own.reach) at c.walk_solid.ensures.is) }

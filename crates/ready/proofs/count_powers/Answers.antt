@@ -1,12 +1,9 @@
--- `ready::count_powers` meets its contract. The loop keeps `Counting`; the powers below 512 that are left are the measure.
-use Rattle.ready.proofs.Counting.{counting-starts, counting_more, counting-ends}
+-- `ready::count_powers` meets its contract: the exponent of the last power counts them.
+use native.Mathlib.Omega.{arith}
+use Rattle.laws.specs.Powers.{powers-counted}
 use Rattle.ready.proofs.count_powers.Goals as goal
 
-pub loop-power-init : goal.loop-power-init
-loop-power-init c = counting-starts
-
-pub loop-power-preserved : goal.loop-power-preserved
-loop-power-preserved c = search counting_more
-
 pub returns : goal.returns
-returns c = search counting-ends
+returns c =
+    let p = c.next_power_of_two.ensures in
+    omega (arith, powers-counted p.power p.lower_bound p.upper_bound c.ilog2.ensures.power_le c.ilog2.ensures.next_power_gt)

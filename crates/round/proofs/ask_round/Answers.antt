@@ -1,24 +1,27 @@
--- `round::ask_round` meets its contract. The loop's invariant: the pairs from here on give what the whole round gives. The measure is the pairs that are left.
-use Rattle.round.proofs.Rounds.{asking, asking-few}
+-- `round::ask_round` meets its contract. The loop's invariant: the pairs from here on give what the whole round gives.
+use Rattle.std.proofs.Common.{rules}
+use Rattle.round.proofs.Rounds.{asking, asking-few, asking-on, asking-stopped}
 use Rattle.round.proofs.ask_round.Goals as goal
-use Rattle.round.proofs.ask_round.Goals.{then-takes_part+in-Asked, else-takes_part}
+use Rattle.round.proofs.ask_round.Goals.{then-takes_part+in_ok-round, else-takes_part}
 
-pub loop-i-init : goal.loop-i-init
-loop-i-init c = search asking
+pub loop-pair-init : goal.loop-pair-init
+loop-pair-init c = search asking
 
-pub ask_way-r-requires : goal.ask_way-r-requires
-ask_way-r-requires c =
-    let h = c.loop-i.invariant in
-    (c.requires.0, c.requires.1, c.requires.2, c.loop-i-test.true, h.weighed, asking-few h c.requires.3 c.loop-i-test.true)
+pub ask_way-requires : goal.ask_way-requires
+ask_way-requires c =
+    let h = c.loop-pair.invariant in
+    (c.requires.0, c.requires.1, h.weighed, asking-few h c.requires.2 c.loop-pair-test.true)
 
-pub returns-in-Stopped : goal.returns-in-Stopped
-returns-in-Stopped c = search asking
+pub returns-in_err-round : goal.returns-in_err-round
+returns-in_err-round c =
+    let h = asking-stopped c.loop-pair.invariant _ c.loop-pair-test.true c.takes_part.ensures c.if-takes_part.true c.ask_way.ensures c.in_err-round.was in
+    search (rules, h)
 
-pub loop-i-preserved : goal.loop-i-preserved
-loop-i-preserved c =
+pub loop-pair-preserved : goal.loop-pair-preserved
+loop-pair-preserved c =
     elim c.if-takes_part.branch [
-      | then-takes_part+in-Asked w ↦ rw (w.best-is, w.n-is) (search asking)
-      | else-takes_part w ↦ rw (w.best-is, w.n-is) (search asking)
+      | then-takes_part+in_ok-round w ↦ rw w.round-is (asking-on c.loop-pair.invariant _ c.loop-pair-test.true c.takes_part.ensures w.if-takes_part.true w.ask_way.ensures w.in_ok-round.was)
+      | else-takes_part w ↦ rw w.round-is (search asking)
     ]
 
 pub returns : goal.returns

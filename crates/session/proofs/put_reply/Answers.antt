@@ -5,8 +5,8 @@ use Rattle.session.proofs.put_reply.Goals as goal
 pub put_answer-requires : goal.put_answer-requires
 put_answer-requires c = search answer-space
 
-pub returns-in-Asks : goal.returns-in-Asks
-returns-in-Asks c = search replies-answer
+pub returns-in-Some : goal.returns-in-Some
+returns-in-Some c = search replies-answer
 
-pub returns-in-OtherForm : goal.returns-in-OtherForm
-returns-in-OtherForm c = search replies-other
+pub returns-in-None : goal.returns-in-None
+returns-in-None c = search replies-other

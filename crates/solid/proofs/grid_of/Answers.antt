@@ -13,8 +13,8 @@ use Rattle.solid.proofs.grid_of.Goals as goal
 sides : {s : Solid} {k : Stack} {bytes : List ℕ} → PermittedSolid s bytes → s ≡ IsStack k → SidesOf k
 sides h e = (sized (rw e at h.is)).of
 
-pub ranks_of-ranks-requires : goal.ranks_of-ranks-requires
-ranks_of-ranks-requires c = sides c.requires c.in-Stack.is
+pub ranks_of-requires : goal.ranks_of-requires
+ranks_of-requires c = sides c.requires c.in-Stack.is
 
 pub overflow_cast-result : goal.overflow_cast-result
 overflow_cast-result c = side-casts-to (sides c.requires c.in-Stack.is).wide w16 tt

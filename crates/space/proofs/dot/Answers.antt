@@ -3,12 +3,6 @@ use Rattle.integers.specs.Machine.{machine, fits, value}
 use Rattle.rules.specs.Vectors.{dot}
 use Rattle.space.proofs.dot.Goals as goal
 
-pub overflow_mul-result : goal.overflow_mul-result
-overflow_mul-result c = fits (search machine depth 30 fits 5000) tt
-
-pub overflow_mul-result-2 : goal.overflow_mul-result-2
-overflow_mul-result-2 c = fits (search machine depth 30 fits 5000) tt
-
 pub overflow_add-result : goal.overflow_add-result
 overflow_add-result c = fits (search machine depth 30 fits 5000) tt
 

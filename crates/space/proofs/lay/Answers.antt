@@ -1,17 +1,8 @@
--- Each part's operation fits by the bounds that `lay` requires, and gives the definition's part.
-use Rattle.integers.specs.Machine.{machine, fits, value}
+-- Each part is that of the definition.
+use Rattle.integers.specs.Machine.{machine, value}
 use Rattle.rules.specs.Vectors.{lay}
 use Rattle.laws.specs.Parts.{vector-eq}
 use Rattle.space.proofs.lay.Goals as goal
-
-pub overflow_mul-result : goal.overflow_mul-result
-overflow_mul-result c = fits (search machine depth 30 fits 5000) tt
-
-pub overflow_mul-result-2 : goal.overflow_mul-result-2
-overflow_mul-result-2 c = fits (search machine depth 30 fits 5000) tt
-
-pub overflow_mul-result-3 : goal.overflow_mul-result-3
-overflow_mul-result-3 c = fits (search machine depth 30 fits 5000) tt
 
 pub returns : goal.returns
 unfolding lay

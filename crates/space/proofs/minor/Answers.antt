@@ -2,12 +2,6 @@
 use Rattle.integers.specs.Machine.{machine, fits, value}
 use Rattle.space.proofs.minor.Goals as goal
 
-pub overflow_mul-result : goal.overflow_mul-result
-overflow_mul-result c = fits (search machine depth 30 fits 5000) tt
-
-pub overflow_mul-result-2 : goal.overflow_mul-result-2
-overflow_mul-result-2 c = fits (search machine depth 30 fits 5000) tt
-
 pub overflow_sub-result : goal.overflow_sub-result
 overflow_sub-result c = fits (search machine depth 30 fits 5000) tt
 

@@ -1,17 +1,8 @@
--- Each part's operation fits by the bounds that `negate` requires, and gives the definition's part.
-use Rattle.integers.specs.Machine.{machine, fits, value}
+-- Each part is that of the definition.
+use Rattle.integers.specs.Machine.{machine, value}
 use Rattle.rules.specs.Vectors.{minus}
 use Rattle.laws.specs.Parts.{vector-eq}
 use Rattle.space.proofs.negate.Goals as goal
-
-pub overflow_sub-result : goal.overflow_sub-result
-overflow_sub-result c = fits (search machine depth 30 fits 5000) tt
-
-pub overflow_sub-result-2 : goal.overflow_sub-result-2
-overflow_sub-result-2 c = fits (search machine depth 30 fits 5000) tt
-
-pub overflow_sub-result-3 : goal.overflow_sub-result-3
-overflow_sub-result-3 c = fits (search machine depth 30 fits 5000) tt
 
 pub returns : goal.returns
 unfolding minus

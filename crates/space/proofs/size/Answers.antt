@@ -1,10 +1,9 @@
 -- Three sizes of at most 10^9 add up within 32 bits. Each is that of a part, which is read back from bits.
 use mathlib.Core.Path.{◌≡◌, ap₂, ◌∙◌}
 use Prim.Native.Nat.{ℕ, ◌+◌}
-use native.Mathlib.Omega.{arith}
 use lib.IntN.{ℤ, nat_abs}
 use mir.Syntax.{w32}
-use mir.Val.{Fits, to_z, of_z}
+use mir.Val.{to_z, of_z}
 use Rattle.integers.specs.Sizes.{Within}
 use Rattle.integers.specs.Machine.{machine, value}
 use Rattle.rules.specs.Vectors.{size}
@@ -20,20 +19,8 @@ Low x = Within 1000000000 x
 part : {x : ℤ} {r : ℕ} → Read x r → Low x → r ≡ nat_abs x
 part e h = e ∙ value (search machine depth 30 fits 5000) tt
 
-two-fit : {x y : ℤ} {r s : ℕ} → Read x r → Read y s → Low x → Low y → Fits w32 (r + s)
-two-fit e f h k = omega (arith, part e h, part f k, h.size, k.size)
-
-three-fit : {x y z : ℤ} {r s t : ℕ} → Read x r → Read y s → Read z t → Low x → Low y → Low z → Fits w32 (r + s + t)
-three-fit e f g h k l = omega (arith, part e h, part f k, part g l, h.size, k.size, l.size)
-
 sum : {x y z : ℤ} {r s t : ℕ} → Read x r → Read y s → Read z t → Low x → Low y → Low z → r + s + t ≡ nat_abs x + nat_abs y + nat_abs z
 sum e f g h k l = ap₂ ◌+◌ (ap₂ ◌+◌ (part e h) (part f k)) (part g l)
-
-pub overflow_add-result : goal.overflow_add-result
-overflow_add-result c = search two-fit
-
-pub overflow_add-result-2 : goal.overflow_add-result-2
-overflow_add-result-2 c = search three-fit
 
 pub returns : goal.returns
 unfolding size

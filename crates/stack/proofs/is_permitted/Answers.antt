@@ -10,4 +10,4 @@ pub returns-then-has_sizes : goal.returns-then-has_sizes
 returns-then-has_sizes c = rw (permitted-stack, sym c.has_sizes.ensures ∙ c.if-has_sizes.true, c.stack_bytes.ensures)
 
 pub returns-else-has_sizes : goal.returns-else-has_sizes
-returns-else-has_sizes c = rw (permitted-stack, sym c.has_sizes.ensures ∙ c.if-has_sizes.false)
+returns-else-has_sizes c = rw (permitted-stack, sym c.has_sizes.ensures ∙ c.if-has_sizes.false) c.if-has_sizes.false

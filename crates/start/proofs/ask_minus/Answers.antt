@@ -7,12 +7,10 @@ use Rattle.start.proofs.Axes.{minus-asked}
 use Rattle.start.proofs.ask_minus.Goals as goal
 
 pub turn-requires : goal.turn-requires
-turn-requires c = line-fits c.requires.0 (line-along c.requires.0 c.requires.1)
+turn-requires c = line-fits c.args.probe.now.ready (line-along c.args.probe.now.ready c.requires.0)
 
 pub ask_along-requires : goal.ask_along-requires
-ask_along-requires c =
-    (c.requires.0, rw c.turn.ensures (turned-line (line-along c.requires.0 c.requires.1)), omega arith)
+ask_along-requires c = (rw c.turn.ensures (turned-line (line-along c.args.probe.now.ready c.requires.0)), omega arith)
 
 pub returns : goal.returns
-returns c =
-    minus-asked (ap way_along c.turn.ensures ∙ way_back c.requires.1) c.ask_along.ensures
+returns c = minus-asked (ap way_along c.turn.ensures ∙ way_back c.requires.0) c.ask_along.ensures

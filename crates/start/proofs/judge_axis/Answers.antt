@@ -1,13 +1,6 @@
 -- `start::judge_axis` meets its contract: by what the question of minus the unit vector gave, and what `ask_opposite` promises.
-use mathlib.Core.Path.{ap}
-use native.Mathlib.Omega.{arith}
-use Rattle.falls.specs.Falls.{falls_looks}
 use Rattle.start.proofs.Axes.{judging-axis}
 use Rattle.start.proofs.judge_axis.Goals as goal
-
-pub ask_opposite-requires : goal.ask_opposite-requires
-ask_opposite-requires c =
-    (c.requires.0, c.requires.1, omega (arith, c.requires.2, ap falls_looks c.in-Kept.is))
 
 pub returns-in-Fell : goal.returns-in-Fell
 returns-in-Fell c = search judging-axis

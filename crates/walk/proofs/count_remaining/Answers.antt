@@ -7,7 +7,8 @@ use native.Mathlib.Omega.{arith}
 use lib.ListN.{length}
 use mir.Val.{bool_byte}
 use Rattle.rules.specs.declared.Levels.{Levels}
-use Rattle.rules.specs.Walk.{axis0, axis1, axis2, keep, only, remaining}
+use Rattle.rules.specs.declared.Axis.TheVariants.{Axis0 as axis0, Axis1 as axis1, Axis2 as axis2}
+use Rattle.rules.specs.Walk.{keep, only, remaining}
 use Rattle.laws.specs.Flags.{at_most_one, one_more}
 use Rattle.walk.proofs.count_remaining.Goals as goal
 

@@ -3,8 +3,8 @@ use Prim.Native.Nat.{◌-◌}
 use Rattle.walk.proofs.Walks.{Going}
 use Rattle.walk.proofs.walk_on.Given as goal
 
-abbrev pub invariant-loop-p : goal.invariant-loop-p
-invariant-loop-p l = Going l.scene l.bytes l.level l.looks l.m l.steps l.n
+abbrev pub invariant-loop-round : goal.invariant-loop-round
+invariant-loop-round l = Going l.scene l.probe.bytes.now l.level l.looks l.m l.steps l.n
 
-abbrev pub decreases-loop-p : goal.decreases-loop-p
-decreases-loop-p l = l.limit - l.steps
+abbrev pub decreases-loop-round : goal.decreases-loop-round
+decreases-loop-round l = l.limit - l.steps

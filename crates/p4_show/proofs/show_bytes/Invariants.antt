@@ -1,9 +1,0 @@
--- `show_bytes` stays inside the bytes. Those left are the measure.
-use Rattle.std.proofs.Common.{length, ◌-◌, ◌≤◌}
-use Rattle.p4_show.proofs.show_bytes.Given as goal
-
-abbrev pub invariant-loop-i : goal.invariant-loop-i
-invariant-loop-i l = l.i ≤ length l.bytes
-
-abbrev pub decreases-loop-i : goal.decreases-loop-i
-decreases-loop-i l = length l.bytes - l.i

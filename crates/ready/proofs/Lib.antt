@@ -1,2 +1,0 @@
--- The powers, counted one by one.
-pub mod Counting
