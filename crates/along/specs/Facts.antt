@@ -66,8 +66,11 @@ module _ {v : Scene} where
           rise = ap neg_ℤ a.rise ∙ sym (dot-minus (ranks_of v.solid) (scale l.step u)) ∙ ap (dot (ranks_of v.solid)) (sym (turned-along u l.step));
         }
 
+    pub line-axis : {k : Axis} → LineOf v k l → l.axis ≡ k
+    line-axis e = ap (λ (m : Line). m.axis) e.is
+
     pub line-in : {k : Axis} → LineOf v k l → LineIn v l
-    line-in e = record { is = e.is ∙ ap (line_of v) (sym (ap (λ (m : Line). m.axis) e.is)) }
+    line-in e = record { is = e.is ∙ ap (line_of v) (sym (line-axis e)) }
 
     stepped : LineIn v l → l.step ≡ part l.axis v.signs
     stepped i = ap (λ (m : Line). m.step) i.is

@@ -13,7 +13,7 @@ use Rattle.choice.specs.Sound.{Sound}
 use Rattle.choice.specs.Lighter.{Weighs, Preferred}
 
 module _ {m : Triangle} (s : Sound m) (y : Pair) where
-  lighter-preferred : (sofar : Option Best) → Weighs m sofar → Preferred m sofar y (lighter sofar (best_of y (weight m y)))
+  lighter-preferred : (sofar : Option (Best Pair)) → Weighs m sofar → Preferred m sofar y (lighter sofar (best_of y (weight m y)))
   unfolding lighter better
   lighter-preferred None h = record { is = refl; weighs = refl }
   lighter-preferred (Some b) h = go (lt_z (weight m y) b.weight) (rw h (inside-by-weight m s.unimodular b.pair y))
@@ -23,5 +23,5 @@ module _ {m : Triangle} (s : Sound m) (y : Pair) where
       go false i = record { is = rw (better, i); weighs = h }
 
   -- as the code comes to it
-  pub prefers : {sofar : Option Best} {next : Best} {r : Option Best} {w : ℤ} → Weighs m sofar → w ≡ weight m y → next ≡ best_of y w → r ≡ lighter sofar next → Preferred m sofar y r
+  pub prefers : {sofar : Option (Best Pair)} {next : Best Pair} {r : Option (Best Pair)} {w : ℤ} → Weighs m sofar → w ≡ weight m y → next ≡ best_of y w → r ≡ lighter sofar next → Preferred m sofar y r
   prefers {sofar} h e p q = rw (q, p, e) (lighter-preferred sofar h)

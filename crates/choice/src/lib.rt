@@ -6,17 +6,17 @@ ghost use Rattle.rules.specs.Vectors.{dot};
 ghost use Rattle.laws.specs.Bounds.{Bounded};
 ghost use Rattle.choice.specs.Best.{best_of, lighter};
 
-use rules::{Pair, Vector};
+use rules::Vector;
 
-// A falling pair with its weight.
+// A falling pair with its weight. The pair is whatever the caller knows it by.
 #[derive(Clone, Copy)]
-pub struct Best {
-    pub pair: Pair,
+pub struct Best<P> {
+    pub pair: P,
     pub weight: i32,
 }
 
 // The pair with its weight, m_l·(m_l - m_k), where l is m_l and w the way.
-pub fn weigh(pair: Pair, l: Vector, w: Vector) -> Best
+pub fn weigh<P: Copy>(pair: P, l: Vector, w: Vector) -> Best<P>
     requires { Bounded 10000 l × Bounded 10000 w }
     ensures { result ≡ best_of pair (dot l w) }
 {
@@ -28,10 +28,10 @@ pub fn weigh(pair: Pair, l: Vector, w: Vector) -> Best
 
 // The lighter pair, of equals the first. Strictly inside is lighter: theorem `inside-by-weight`.
 #[tactic(auto, unfolding(crate::specs::Best::lighter))]
-pub fn prefer(sofar: Option<Best>, next: Best) -> Option<Best>
+pub fn prefer<P: Copy>(sofar: Option<Best<P>>, next: Best<P>) -> Option<Best<P>>
     ensures { result ≡ lighter sofar next }
 {
-    match sofar {
+    match &sofar {
         Some(best) if best.weight <= next.weight => sofar,
         _ => Some(next),
     }

@@ -1,7 +1,7 @@
 -- The falls question over any look, power by power: what each outcome of the look at l makes of the rest.
 use Rattle.std.specs.Prelude.{◌≡◌, Bool, true, false, List, [], ◌∷◌, leb, ℤ, pos, ◌+ℤ◌, ◌-ℤ◌}
 use Rattle.std.proofs.Math.Path.{refl, sym, ap}
-use Rattle.std.proofs.Common.{◌∙◌, arith, le-leb}
+use Rattle.std.proofs.Common.{subst, ◌∙◌, arith, le-leb}
 use Prim.Native.Nat.{ℕ, zero, suc, ◌+◌, ◌≤◌, ◌<◌}
 use Rattle.std.proofs.Math.Dec.{lit<, lit≤}
 use Rattle.std.proofs.lemmas.Bool.{lt-leb}
@@ -12,9 +12,10 @@ use Rattle.integers.specs.Reify.{byring, sides}
 use Rattle.rules.specs.Vectors.{◌⊕◌, ◌⊖◌, scale, dot}
 use Rattle.laws.specs.Bounds.{Bounded, bounded-is, bounded-wider, bounded-sum, bounded-difference}
 use Rattle.laws.specs.Parts.{part, part-sum, part-difference, part-scale, vector-by-parts, dot-sum, dot-difference}
-use Rattle.rules.specs.Walk.{powers_from, powers, falls_at}
+use Rattle.rules.specs.Walk.{powers_from, powers, falls_at, Probe}
 use Rattle.laws.specs.Tally.{Tally, yes, no, Gives, then-yes, then-no, at_once, filled-there, empty-there, outside-there}
 use Rattle.falls.specs.Falls.{Fallen, Falling}
+use Rattle.falls.specs.declared.Falls.{Falls}
 use Rattle.falls.specs.declared.Falls.TheVariants.{Fell, Kept, Stopped}
 
 module _ (look : Vector → Look) (q u : Vector) (span l n : ℕ) where
@@ -70,6 +71,14 @@ twice q u l = vector-by-parts (λ k. simp (part-sum, part-difference, part-scale
 once : (q u : Vector) → q ⊕ u ≡ q ⊕ scale (pos 1) u
 once q u = vector-by-parts (λ k. simp (part-sum, part-scale) (byring (part k q ∷ part k u ∷ []) (search sides depth 40 fits 5000) tt))
 
+-- from q and back
+back : (q u : Vector) {at : Vector} → at ≡ q ⊕ u → at ⊖ q ≡ u
+back q u e = ap (λ (v : Vector). v ⊖ q) e ∙ vector-by-parts (λ k. simp (part-sum, part-difference) (byring (part k q ∷ part k u ∷ []) (search sides depth 40 fits 5000) tt))
+
+-- the first point tells the vector that was asked
+pub fallen-back : {c : Probe} {u first : Vector} {looks : ℕ} {f : Falls} → first ≡ c.apex ⊕ u → Fallen c (first ⊖ c.apex) looks f → Fallen c u looks f
+fallen-back {c} {u} {looks = looks} {f} e h = subst (λ (v : Vector). Fallen c v looks f) (back c.apex u e) h
+
 module _ {look : Vector → Look} {r q u : Vector} {span looks : ℕ} where
   pub falls-begins : {at : Vector} {here rise rank : ℤ} → Bounded 1023 q → Bounded 2046 u → here ≡ dot r q → rise ≡ dot r u → at ≡ q ⊕ u → rank ≡ here +ℤ rise → Falling look r q u span looks 1 looks at rank
   unfolding powers
@@ -84,6 +93,10 @@ module _ {look : Vector → Look} {r q u : Vector} {span looks : ℕ} where
     enough = omega arith;
     rest = λ g. g;
   }
+
+  -- the same of the first point's difference from q
+  pub falls-begins-back : {at : Vector} {here rise rank : ℤ} → Bounded 1023 q → Bounded 2046 u → here ≡ dot r q → rise ≡ dot r u → at ≡ q ⊕ u → rank ≡ here +ℤ rise → Falling look r q (at ⊖ q) span looks 1 looks at rank
+  falls-begins-back {at} {rank = rank} b d h i a e = subst (λ (v : Vector). Falling look r q v span looks 1 looks at rank) (sym (back q u a)) (falls-begins b d h i a e)
 
   module _ {l n : ℕ} {at : Vector} {rank : ℤ} {k : Look} (h : Falling look r q u span looks l n at rank) (b : k ≡ look at) where
     look_is : {j : Look} → k ≡ j → look (there look q u span l n) ≡ j

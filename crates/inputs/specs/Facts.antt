@@ -6,6 +6,7 @@ use Rattle.rules.specs.declared.Solid.{Solid}
 use Rattle.rules.specs.declared.Refused.{Refused}
 use Rattle.laws.specs.Tally.{yes, Gives}
 use Rattle.falls.specs.declared.Probe.{Probe}
+use Rattle.falls.specs.Scene.{Ready}
 use Rattle.refusals.specs.Refusals.{refusal_tally}
 use Rattle.inputs.specs.declared.Begin.{Begin}
 use Rattle.inputs.specs.Inputs.{Fit, scene_of, judging_of, InputsJudged}
@@ -29,3 +30,6 @@ module _ {begin : Begin} {solid : Solid} {bytes : List ℕ} {frame reach : ℤ} 
 
     pub bytes-are : m.bytes.now ≡ bytes
     bytes-are = (rw e at h.fits).1
+
+    pub scene-ready : Ready m.scene bytes
+    scene-ready = rw bytes-are at m.ready

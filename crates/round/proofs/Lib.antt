@@ -1,3 +1,4 @@
 -- The round, pair by pair.
+pub mod Numbers
 pub mod Ways
 pub mod Rounds

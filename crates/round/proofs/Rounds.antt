@@ -6,6 +6,7 @@ use Rattle.rules.specs.declared.Vector.{Vector}
 use Rattle.rules.specs.declared.Levels.{Levels}
 use Rattle.rules.specs.declared.Triangle.{Triangle}
 use Rattle.rules.specs.declared.Pair.{Pair}
+use Rattle.rules.specs.declared.Pair.TheVariants.{P21}
 use Rattle.rules.specs.Answers.{Choice}
 use Rattle.rules.specs.Vectors.{dot, lay}
 use Rattle.rules.specs.Asked.{Asked, answered, ◌>>=◌}
@@ -58,7 +59,7 @@ module _ {c : Probe} {m : Triangle} {x : Pair} {k : Round} {w : Vector} (e : w �
     few = omega (arith, h.few, l);
   }
 
-  pub way-fell : (l : Vector) {f : Falls} {n : ℕ} {next : Best} {b : Option Best} → Sound m → Weighs m k.best → dot l w ≡ weight m x → Fallen c w k.looks f → f ≡ Fell n → next ≡ best_of x (dot l w) → b ≡ lighter k.best next → WayAsked c m x k (Ok (record { best = b; looks = n }))
+  pub way-fell : (l : Vector) {f : Falls} {n : ℕ} {next : Best Pair} {b : Option (Best Pair)} → Sound m → Weighs m k.best → dot l w ≡ weight m x → Fallen c w k.looks f → f ≡ Fell n → next ≡ best_of x (dot l w) → b ≡ lighter k.best next → WayAsked c m x k (Ok (record { best = b; looks = n }))
   unfolding weighed
   way-fell l {n = n} s o g h i p q = let r = prefers s x o g p q in way_by (Fell n) (rw i at h) (ap (λ (z : Choice). yes z n) r.is) refl r.weighs
 
@@ -101,15 +102,15 @@ module _ {c : Probe} {m : Triangle} {level : Levels} {looks : ℕ} where
     pub asking-few : Countable 6 looks → i < 6 → Countable 1 k.looks
     asking-few e l = omega (arith, h.few)
 
-    module _ (d : Pair) (l : i < 6) {b : Bool} (t : b ≡ takes_part level (get_or pairs i d)) where
-      pairs-from : drop i pairs ≡ get_or pairs i d ∷ drop (i + 1) pairs
-      pairs-from = rw (add-one, drop-cons pairs i d l)
+    module _ {x : Pair} (p : x ≡ get_or pairs i P21) (l : i < 6) {b : Bool} (t : b ≡ takes_part level x) where
+      pairs-from : drop i pairs ≡ x ∷ drop (i + 1) pairs
+      pairs-from = rw (p, add-one, drop-cons pairs i P21 l)
 
       pub asking-passed : b ≡ false → Asking c m level looks (i + 1) k
       unfolding only keep
       asking-passed e = record { few = omega (arith, h.few); weighed = h.weighed; rest_gives = rw (pairs-from, sym t ∙ e) at h.rest_gives }
 
-      module _ {r : Result Round Outside} (e : b ≡ true) (w : WayAsked c m (get_or pairs i d) k r) where
+      module _ {r : Result Round Outside} (e : b ≡ true) (w : WayAsked c m x k r) where
         rest-asked : rest c m (taking level (drop (i + 1) pairs)) (round_tally r) ≡ tally looks (round c (taking level pairs) m)
         unfolding only keep
         rest-asked = w.is (taking level (drop (i + 1) pairs)) ∙ (rw (pairs-from, sym t ∙ e) at h.rest_gives)

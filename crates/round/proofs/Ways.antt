@@ -23,22 +23,22 @@ module _ {v : Scene} {bytes : List ℕ} {ms : List Corner} (ready : Ready v byte
   pub corner-fits : (k : Axis) {a : Corner} → a ≡ corner_at ms k → Bounded 10000 a.at
   corner-fits k e = bounded-wider (corner-small k e).bounded (lit≤ tt)
 
-  module _ (x : Pair) {k l : Axis} {a b w : Corner} (i : k ≡ from x) (j : l ≡ to x) (e : a ≡ corner_at ms k) (f : b ≡ corner_at ms l) (g : w ≡ difference b a) where
+  module _ (x : Pair) {a b w : Corner} (e : a ≡ corner_at ms (from x)) (f : b ≡ corner_at ms (to x)) (g : w ≡ difference b a) where
     pub is-laid : w.at ≡ lay v.signs (way (triangle_in v.signs ms) x)
-    is-laid = rw (g, f, e, j, i) (way-laid ms ready.signed x)
+    is-laid = rw (g, f, e) (way-laid ms ready.signed x)
 
     pub weighs : dot b.at w.at ≡ weight (triangle_in v.signs ms) x
-    weighs = rw (g, f, e, j, i) (weight-laid ms ready.signed x)
+    weighs = rw (g, f, e) (weight-laid ms ready.signed x)
 
     pub rank-is : from_bits w.rank ≡ dot (ranks_of v.solid) w.at
     rank-is =
-        let p = (corner-small k e).within in
-        let q = (corner-small l f).within in
+        let p = (corner-small (from x) e).within in
+        let q = (corner-small (to x) f).within in
         let read : from_bits (b.rank -ℤ a.rank) ≡ b.rank -ℤ a.rank = value (search machine depth 30 fits 5000) tt in
-        rw g (read ∙ rw (f, e) (rank-difference z l k))
+        rw g (read ∙ rw (f, e) (rank-difference z (to x) (from x)))
 
     pub way-small : Bounded 2046 w.at
-    way-small = rw g (bounded-difference (corner-small l f).bounded (corner-small k e).bounded)
+    way-small = rw g (bounded-difference (corner-small (to x) f).bounded (corner-small (from x) e).bounded)
 
     pub way-fits : Bounded 10000 w.at
     way-fits = bounded-wider way-small (lit≤ tt)

@@ -1,5 +1,5 @@
 -- The walk's array: each triangle vector laid in, with its rank. A step of it is document 01's step of the triangle in the frame, and keeps the ranks.
-use Rattle.std.specs.Prelude.{◌≡◌, refl, List, [], ◌∷◌, ℕ, ℤ, pos, ◌-ℤ◌, length, get_or, set}
+use Rattle.std.specs.Prelude.{◌≡◌, refl, List, [], ◌∷◌, ℕ, ◌<◌, ℤ, pos, ◌-ℤ◌, length, get_or, set}
 use Rattle.std.proofs.Common.{sym, ap, ◌∙◌, arith, length-set}
 use Rattle.integers.specs.Sizes.{Within, within-is}
 use Rattle.rules.specs.declared.Vector.{Vector}
@@ -71,6 +71,11 @@ pub laid-laid : (s : Vector) (m : Triangle) → Signs s → laid s (laid s m) �
 laid-laid s m g = λ i. triangle (lay-lay s m.m0 g i) (lay-lay s m.m1 g i) (lay-lay s m.m2 g i)
 
 -- ---- what an axis names
+pub index_below : {i : ℕ} (k : Axis) → i ≡ index k → i < 3
+index_below axis0 e = omega arith
+index_below axis1 e = omega arith
+index_below axis2 e = omega arith
+
 corner-of : (s : Vector) (ms : List Corner) (k : Axis) → vector_of (triangle_in s ms) k ≡ lay s (corner_at ms k).at
 corner-of s ms axis0 = refl
 corner-of s ms axis1 = refl

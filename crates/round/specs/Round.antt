@@ -1,9 +1,10 @@
 -- A round: what it tells, and what one pair more leaves of it.
-use Rattle.std.specs.Prelude.{◌≡◌, List, [], ◌∷◌, ℕ, ◌+◌, ◌≤◌, Result, Ok, Err}
+use Rattle.std.specs.Prelude.{◌≡◌, Bool, List, [], ◌∷◌, ℕ, ◌+◌, ◌/◌, ◌%◌, ◌^◌, ◌≤◌, eqb, Result, Ok, Err}
 use Rattle.rules.specs.declared.Vector.{Vector}
 use Rattle.rules.specs.declared.Levels.{Levels}
 use Rattle.rules.specs.declared.Triangle.{Triangle}
 use Rattle.rules.specs.declared.Pair.{Pair}
+use Rattle.rules.specs.declared.Pair.TheVariants.{P01, P02, P10, P12, P20, P21}
 use Rattle.rules.specs.Answers.{Choice}
 use Rattle.rules.specs.Asked.{Asked, answered, ◌>>=◌}
 use Rattle.rules.specs.Walk.{pairs, only, takes_part, Probe, falling, round}
@@ -29,6 +30,22 @@ Weighed m (Err o) = Unit {0}
 -- the pairs that take part
 abbrev pub taking : Levels → List Pair → List Pair
 taking level ps = only (takes_part level) ps
+
+-- a pair's number in their order
+abbrev pub number_of : Pair → ℕ
+number_of P01 = 0
+number_of P02 = 1
+number_of P10 = 2
+number_of P12 = 3
+number_of P20 = 4
+number_of P21 = 5
+
+-- a pair takes part where its bit is 0
+abbrev pub asks_bit : ℕ → ℕ → Bool
+asks_bit skip pair = eqb (skip / 2 ^ pair % 2) 0
+
+pub record Skips (level : Levels) (skip : ℕ) : Type 0 where
+  pub bits : (x : Pair) → asks_bit skip (number_of x) ≡ takes_part level x
 
 module _ (c : Probe) (m : Triangle) where
   -- the pairs ps, after those of which b is the best

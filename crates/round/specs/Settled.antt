@@ -4,6 +4,7 @@ use Rattle.std.proofs.Common.{sym}
 use Rattle.rules.specs.declared.Vector.{Vector}
 use Rattle.rules.specs.declared.Levels.{Levels}
 use Rattle.rules.specs.declared.Triangle.{Triangle}
+use Rattle.rules.specs.declared.Pair.{Pair}
 use Rattle.rules.specs.Answers.{Choice}
 use Rattle.rules.specs.Walk.{Probe}
 use Rattle.laws.specs.Tally.{Tally, yes, no, gives-settled}
@@ -15,11 +16,11 @@ use Rattle.choice.specs.Lighter.{Weighs}
 use Rattle.round.specs.declared.Round.{Round}
 use Rattle.round.specs.Round.{round_tally, Weighed, RoundAsked}
 
-weighed : Triangle → Choice → Option Best
+weighed : Triangle → Choice → Option (Best Pair)
 weighed m None = None
 weighed m (Some x) = Some (best_of x (weight m x))
 
-weighed_again : (m : Triangle) (b : Option Best) → Weighs m b → weighed m (choice_of b) ≡ b
+weighed_again : (m : Triangle) (b : Option (Best Pair)) → Weighs m b → weighed m (choice_of b) ≡ b
 unfolding weighed
 weighed_again m None h = refl
 weighed_again m (Some b) h = λ i. Some (best_of b.pair (sym h i))

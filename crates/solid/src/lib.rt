@@ -70,7 +70,7 @@ impl Grid {
     }
 }
 
-fn grid_of(s: Solid, bytes: &[u8]) -> Grid
+pub fn grid_of(s: Solid, bytes: &[u8]) -> Grid
     requires { PermittedSolid s bytes.now }
     ensures { result ≡ grid_of s }
 {

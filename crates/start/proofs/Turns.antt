@@ -14,7 +14,7 @@ use Rattle.falls.specs.declared.Falls.{Falls}
 use Rattle.falls.specs.declared.Scene.{Scene}
 use Rattle.along.specs.declared.Line.{Line}
 use Rattle.along.specs.Lines.{LineOf}
-use Rattle.along.specs.Facts.{line-in}
+use Rattle.along.specs.Facts.{line-axis, line-in}
 use Rattle.start.specs.declared.AxisTold.{AxisTold}
 use Rattle.start.specs.Start.{Start, AxisAnswer, axis_tally, levels_judged, LevelsJudged, MinusAsked, AxisJudged, with_level, AxesAsked}
 
@@ -58,7 +58,7 @@ module _ {c : Probe} {looks : ℕ} where
           → (Gives n (is_level c (unit (slice_index_or all_axes i o))) (axis_tally a) → Gives n (is_level c (unit (slice_index_or all_axes i o)) >>= λ b. axes_left c (drop (i + 1) all_axes) (with_level v (slice_index_or all_axes i o) b)) r)
           → Gives looks (axes c) r
       unfolding axes_left
-      onward g next = h.rest (rw (axes-from o i l) (next (rw (ap (λ (m : Line). m.axis) u.is) at (g.gives m))))
+      onward g next = h.rest (rw (axes-from o i l) (next (rw (line-axis u) at (g.gives m))))
 
       pub asking-stops : {r : Refused} → AxisJudged c (unit d.axis) f (Err r) → AxesAsked c looks (Err r)
       asking-stops g = record { gives = onward g (λ a. then-no _ a); few = omega (arith, l, h.few, m.few, g.few) }

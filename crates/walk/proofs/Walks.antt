@@ -118,7 +118,7 @@ module _ {v : Scene} {bytes : List ℕ} {level : Levels} {looks : ℕ} {ms : Lis
     pub walks-ended : {t : Triangle} → o.best ≡ None → t ≡ corners_in ms → Walks (probe_of v bytes) v.reach level looks (Ok (record { triangle = t; steps = steps; looks = o.looks }))
     walks-ended f z = rw z record { gives = h.rest (walk-ended (probe_of v bytes) (taking level pairs) (triangle_in v.signs ms) steps n (allowed v.reach level - steps) (rw f at (round-gave e))); sound = h.sound }
 
-    module _ {b : Best} (f : o.best ≡ Some b) where
+    module _ {b : Best Pair} (f : o.best ≡ Some b) where
       chose : Gives n (round (probe_of v bytes) (taking level pairs) (triangle_in v.signs ms)) (yes (Some b.pair) o.looks)
       chose = rw f at (round-gave e)
 

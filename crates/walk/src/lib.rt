@@ -7,11 +7,11 @@ ghost use Rattle.laws.specs.Bounds.{Bounded};
 ghost use Rattle.laws.specs.Frames.{Signs};
 ghost use Rattle.laws.specs.Tally.{Countable};
 ghost use Rattle.falls.specs.Scene.{probe_of};
-ghost use Rattle.walk.specs.Walk.{IsUnit, Units, walk_questions, allowed, Walks};
+ghost use Rattle.walk.specs.Walk.{Units, walk_questions, allowed, Walks};
 
 use falls::Probe;
 use round::Corner;
-use rules::{Axis, Levels, Refusal, Refused, Triangle, Vector};
+use rules::{Levels, Refusal, Refused, Triangle, Vector};
 
 // No pair falls: the triangle laid in, the steps and the looks.
 #[derive(Clone, Copy)]
@@ -21,25 +21,27 @@ pub struct End {
     pub looks: u32,
 }
 
-// An axis's unit vector laid in, with its rank.
-fn unit_corner(axis: Axis, s: Vector, ranks: Vector) -> Corner
-    requires { Signs s × Bounded 65536 ranks }
-    ensures { IsUnit s ranks axis result }
-{
-    Corner {
-        at: space::lay(s, axis::unit_of(axis)),
-        rank: axis::part_of(s, axis) * axis::part_of(ranks, axis),
-    }
-}
-
+// The unit vectors laid in, with their ranks.
 fn unit_vectors(s: Vector, ranks: Vector) -> [Corner; 3]
     requires { Signs s × Bounded 65536 ranks }
     ensures { Units s ranks result }
 {
+    let a = s.x * ranks.x;
+    let b = s.y * ranks.y;
+    let c = s.z * ranks.z;
     [
-        unit_corner(Axis::Axis0, s, ranks),
-        unit_corner(Axis::Axis1, s, ranks),
-        unit_corner(Axis::Axis2, s, ranks),
+        Corner {
+            at: Vector { x: s.x, y: 0, z: 0 },
+            rank: a,
+        },
+        Corner {
+            at: Vector { x: 0, y: s.y, z: 0 },
+            rank: b,
+        },
+        Corner {
+            at: Vector { x: 0, y: 0, z: s.z },
+            rank: c,
+        },
     ]
 }
 

@@ -4,23 +4,23 @@ use Rattle.round.proofs.Rounds.{asking, asking-few, asking-on, asking-stopped}
 use Rattle.round.proofs.ask_round.Goals as goal
 use Rattle.round.proofs.ask_round.Goals.{then-takes_part+in_ok-round, else-takes_part}
 
-pub loop-pair-init : goal.loop-pair-init
-loop-pair-init c = search asking
+pub loop-number-init : goal.loop-number-init
+loop-number-init c = search asking
 
 pub ask_way-requires : goal.ask_way-requires
 ask_way-requires c =
-    let h = c.loop-pair.invariant in
-    (c.requires.0, c.requires.1, h.weighed, asking-few h c.requires.2 c.loop-pair-test.true)
+    let h = c.loop-number.invariant in
+    (c.requires.0, c.requires.1, h.weighed, asking-few h c.requires.2 c.loop-number-test.true)
 
 pub returns-in_err-round : goal.returns-in_err-round
 returns-in_err-round c =
-    let h = asking-stopped c.loop-pair.invariant _ c.loop-pair-test.true c.takes_part.ensures c.if-takes_part.true c.ask_way.ensures c.in_err-round.was in
+    let h = asking-stopped c.loop-number.invariant c.pair_at-pair.ensures c.loop-number-test.true c.takes_part.ensures c.if-takes_part.true c.ask_way.ensures c.in_err-round.was in
     search (rules, h)
 
-pub loop-pair-preserved : goal.loop-pair-preserved
-loop-pair-preserved c =
+pub loop-number-preserved : goal.loop-number-preserved
+loop-number-preserved c =
     elim c.if-takes_part.branch [
-      | then-takes_part+in_ok-round w ↦ rw w.round-is (asking-on c.loop-pair.invariant _ c.loop-pair-test.true c.takes_part.ensures w.if-takes_part.true w.ask_way.ensures w.in_ok-round.was)
+      | then-takes_part+in_ok-round w ↦ rw w.round-is (asking-on c.loop-number.invariant c.pair_at-pair.ensures c.loop-number-test.true c.takes_part.ensures w.if-takes_part.true w.ask_way.ensures w.in_ok-round.was)
       | else-takes_part w ↦ rw w.round-is (search asking)
     ]
 

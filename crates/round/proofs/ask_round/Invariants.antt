@@ -4,5 +4,5 @@ use Rattle.round.specs.Corners.{triangle_in}
 use Rattle.round.proofs.Rounds.{Asking}
 use Rattle.round.proofs.ask_round.Given as goal
 
-abbrev pub invariant-loop-pair : goal.invariant-loop-pair
-invariant-loop-pair l = Asking (probe_of l.probe.scene l.probe.bytes.now) (triangle_in l.probe.scene.signs l.m) l.level l.looks l.pair-index l.round
+abbrev pub invariant-loop-number : goal.invariant-loop-number
+invariant-loop-number l = Asking (probe_of l.probe.scene l.probe.bytes.now) (triangle_in l.probe.scene.signs l.m) l.level l.looks l.number l.round

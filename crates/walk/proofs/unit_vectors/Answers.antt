@@ -1,6 +1,15 @@
--- `walk::unit_vectors` meets its contract: by what `unit_corner` promises of each axis.
-use Rattle.walk.proofs.Units.{units-made}
+-- `walk::unit_vectors` meets its contract: signs are 1 or -1, so everything fits.
+use Rattle.walk.proofs.Units.{rank-fits, units-made}
 use Rattle.walk.proofs.unit_vectors.Goals as goal
+
+pub overflow_mul-a : goal.overflow_mul-a
+overflow_mul-a c = search rank-fits
+
+pub overflow_mul-b : goal.overflow_mul-b
+overflow_mul-b c = search rank-fits
+
+pub overflow_mul-c : goal.overflow_mul-c
+overflow_mul-c c = search rank-fits
 
 pub returns : goal.returns
 returns c = search units-made
