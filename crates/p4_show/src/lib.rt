@@ -1,11 +1,26 @@
-// The answers of P4's reader and writer, as the programs that try them print them.
+// The answers of P4's reader and writer, as the programs that try them print them; and standard output, to print them to.
 #![tactic(auto)]
 
-ghost use Rattle.std.specs.Prelude.{Some};
+ghost use Rattle.std.specs.Prelude.{Some, IsOk};
 ghost use Rattle.p4_show.specs.Texts.{refused, stack, reading, writing, bytes};
 
 use rules::{Reading, RefusedStack, Stack, Writing};
 use std::fmt;
+
+const STDOUT_FILENO: i32 = 1;
+
+// Standard output, by the kit's io. A write that fails is passed over, and the next is made.
+#[derive(Drop)]
+pub struct Stdout;
+
+impl fmt::Write for Stdout {
+    fn write_str(&mut self, s: &str) -> fmt::Result
+        ensures { IsOk result }
+    {
+        io::write_all(STDOUT_FILENO, s.as_bytes());
+        Ok(())
+    }
+}
 
 // What is printed in the programs' form.
 #[derive(Drop)]

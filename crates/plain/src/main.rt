@@ -4,12 +4,13 @@
 
 ghost use Rattle.std.specs.Prelude.{◌≤◌, length, IfOk};
 
-use p4_show::Shown;
+use p4_show::{Shown, Stdout};
 use rules::Writing;
-use std::io;
-use std::io::{Read, Write};
+use std::fmt::Write;
 
-const MOST: usize = 65536;
+const STDIN_FILENO: i32 = 0;
+
+const STDOUT_FILENO: i32 = 1;
 
 // The plain form of the stack in src, at the front of out: how many bytes.
 fn make_plain(src: &[u8], rows: &mut [u8], out: &mut [u8]) -> Writing
@@ -19,19 +20,18 @@ fn make_plain(src: &[u8], rows: &mut [u8], out: &mut [u8]) -> Writing
     p4_write::write(stack, rows, out)
 }
 
-fn main(rt: HostRuntime) -> io::Result<()> {
-    let alloc = rt.alloc();
-    let mut input = Vec::with_capacity(alloc, MOST)?;
-    // A read that fails ends the input, and a write that fails is passed over.
-    let _ = rt.reader().take(MOST as u64).read_to_end(&mut input);
-    let mut rows = vec![in alloc; 0; MOST]?;
-    let mut out = vec![in alloc; 0; MOST]?;
-    let _ = match make_plain(&input, &mut rows, &mut out) {
-        Ok(count) => io::writer(&rt).write_all(&out[..count]),
+fn main() {
+    let mut input = io::large_buffer();
+    let n = io::read_full(STDIN_FILENO, &mut input);
+    let mut rows = io::large_buffer();
+    let mut out = io::large_buffer();
+    match make_plain(&input[..n], &mut rows, &mut out) {
+        Ok(count) => {
+            io::write_all(STDOUT_FILENO, &out[..count]);
+        }
         Err(refused) => {
             let refused = Shown(refused);
-            print!(rt; "{refused}")
+            let _ = write!(Stdout, "{refused}");
         }
-    };
-    Ok(())
+    }
 }
