@@ -104,6 +104,7 @@ pub fn bound_at(power: u32, a: Accepted) -> Bound
     }
 }
 
+#[tactic(auto, using(crate::proofs::Knowing::promised))]
 pub fn known_lean(answer: Pick, reach: i32) -> Lean
     ensures { LeanPromise answer reach result }
 {

@@ -3,9 +3,10 @@
 
 ghost use Rattle.std.specs.Prelude.{◌≡◌};
 ghost use Rattle.rules.specs.Pick.{PickPromise};
-ghost use Rattle.rules.specs.Touch.{TouchPromise};
+ghost use Rattle.rules.specs.Touch.{marked, TouchPromise};
 ghost use Rattle.rules.specs.TwoCalls.{CheckPromise, WalkPromise};
 ghost use Rattle.call.specs.Calls.{EndsPick, EndsCheck, walked, checked};
+ghost use Rattle.pick.specs.Ends.{Picks, picked};
 
 use call::{Call, Found};
 use rules::{Check, Guess, Pick, ReadyStart, Refused, Solid, Touch, Vector};
@@ -32,18 +33,34 @@ fn as_check(found: Result<Found, Refused>) -> Check
     }
 }
 
+// A call of a pick, a touch or a walk.
+fn pick_by(call: Call, solid: Solid, bytes: &[u8], frame: i32, reach: i32) -> Pick
+    requires { Picks call }
+    ensures { result ≡ picked call solid bytes.now frame reach }
+{
+    as_pick(call::make_call(call, solid, bytes, frame, reach))
+}
+
 pub fn pick_solid(solid: Solid, bytes: &[u8], p: Vector, frame: i32, reach: i32) -> Pick
     ensures { PickPromise solid bytes.now p frame reach result }
 {
-    as_pick(call::make_call(Call::Pick(p), solid, bytes, frame, reach))
+    pick_by(Call::Pick(p), solid, bytes, frame, reach)
 }
 
 // An accepted answer is a guess.
+#[tactic(auto, unfolding(rules::specs::Touch::marked))]
+fn as_touch(answer: Pick) -> Touch
+    ensures { result ≡ marked answer }
+{
+    let answer = answer?;
+    Ok(Guess { answer })
+}
+
+#[tactic(auto, unfolding(rules::specs::Touch::touch_of))]
 pub fn touch_solid(solid: Solid, bytes: &[u8], p: Vector, frame: i32, reach: i32) -> Touch
     ensures { TouchPromise solid bytes.now p frame reach result }
 {
-    let answer = as_pick(call::make_call(Call::Touch(p), solid, bytes, frame, reach))?;
-    Ok(Guess { answer })
+    as_touch(pick_by(Call::Touch(p), solid, bytes, frame, reach))
 }
 
 pub fn check_solid(solid: Solid, bytes: &[u8], p: Vector, frame: i32, reach: i32) -> Check
@@ -55,5 +72,5 @@ pub fn check_solid(solid: Solid, bytes: &[u8], p: Vector, frame: i32, reach: i32
 pub fn walk_solid(solid: Solid, bytes: &[u8], d: ReadyStart, frame: i32, reach: i32) -> Pick
     ensures { WalkPromise solid bytes.now d frame reach result }
 {
-    as_pick(call::make_call(Call::Walk(d), solid, bytes, frame, reach))
+    pick_by(Call::Walk(d), solid, bytes, frame, reach)
 }
