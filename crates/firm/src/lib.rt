@@ -1,12 +1,12 @@
 // How firm the footing of a pick's answer is, on any solid.
 #![tactic(auto)]
 
-ghost use Rattle.std.specs.Prelude.{◌≡◌, true, ◌+◌, ◌≤◌};
+ghost use Rattle.std.specs.Prelude.{◌≡◌, true, ◌+◌, ◌≤◌, ◌-ℤ◌};
 ghost use Rattle.rules.specs.Vectors.{origin};
 ghost use Rattle.rules.specs.Solids.{look};
 ghost use Rattle.rules.specs.Lean.{measurable};
 ghost use Rattle.rules.specs.Refusals.{number_of};
-ghost use Rattle.rules.specs.Firm.{start_under, FirmPromise};
+ghost use Rattle.rules.specs.Firm.{held, start_under, FirmPromise};
 ghost use Rattle.laws.specs.Bounds.{Bounded};
 ghost use Rattle.solid.specs.Asks.{InBoxOf};
 ghost use Rattle.refusals.specs.Refusals.{refusal_of};
@@ -18,14 +18,23 @@ use solid::Body;
 
 // ---- the start
 
-// p = q - s, each part held to 32 bits: any apex may be handed.
+// x - sign, held to 32 bits: any apex may be handed.
+#[tactic(auto, using(crate::proofs::Starts::holding))]
+fn hold(x: i32, sign: i32) -> i32
+    ensures { result ≡ held (x -ℤ sign) }
+{
+    x.saturating_sub(sign)
+}
+
+// p = q - s.
+#[tactic(auto, unfolding(rules::specs::Firm::start_under))]
 fn start_under(q: Vector, s: Vector) -> Vector
     ensures { result ≡ start_under q s }
 {
     Vector {
-        x: q.x.saturating_sub(s.x),
-        y: q.y.saturating_sub(s.y),
-        z: q.z.saturating_sub(s.z),
+        x: hold(q.x, s.x),
+        y: hold(q.y, s.y),
+        z: hold(q.z, s.z),
     }
 }
 
@@ -126,7 +135,7 @@ fn firm_of(body: &Body, answer: Pick, frame: u32, reach: u32) -> Firm
 }
 
 // Of any answer: refusals 1, 2 and 3 as a pick's, then 35.
-pub fn firm_solid(solid: Solid, bytes: &[u8], answer: Pick, frame: i32, reach: i32) -> Firm
+fn firm_on(solid: Solid, bytes: &[u8], answer: Pick, frame: i32, reach: i32) -> Firm
     ensures { FirmPromise solid bytes.now answer frame reach result }
 {
     if !range::is_between(1, reach, 256) {
@@ -140,4 +149,11 @@ pub fn firm_solid(solid: Solid, bytes: &[u8], answer: Pick, frame: i32, reach: i
     }
     let body = solid::body_of(solid, bytes);
     firm_of(&body, answer, frame.unsigned_abs(), reach.unsigned_abs())
+}
+
+// Apart from firm_on, so that an edit can be wrong on one solid alone.
+pub fn firm_solid(solid: Solid, bytes: &[u8], answer: Pick, frame: i32, reach: i32) -> Firm
+    ensures { FirmPromise solid bytes.now answer frame reach result }
+{
+    firm_on(solid, bytes, answer, frame, reach)
 }

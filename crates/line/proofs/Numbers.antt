@@ -5,7 +5,8 @@ use mathlib.Core.Logic.{◌≢◌}
 use mathlib.Core.List.{List, [], ◌∷◌}
 use Prim.Native.Nat.{ℕ, zero, suc, ◌-◌, ◌<◌}
 use native.Mathlib.Omega.{arith}
-use lib.IntN.{ℤ, pos, negsuc, ◌-ℤ◌, +ℤ_idl}
+use lib.IntN.{ℤ, pos, negsuc, neg_ℤ, nat_abs, ◌-ℤ◌, +ℤ_idl}
+use lib.Signed.{◌≤ℤ◌}
 use lib.ListN.{length, take, drop, get_or, length-drop}
 use lib.Seq.{take_all}
 use lib.Dec.{eqb}
@@ -17,6 +18,8 @@ use Rattle.std.specs.Prelude.{Option, Some, None, Result, Ok, Err}
 use Rattle.std.specs.Prelude.{T}
 use Rattle.std.specs.Option.{is_some}
 use Rattle.std.specs.Result.{OkIff, result_ok}
+use Rattle.std.proofs.Common.{rules}
+use Rattle.integers.specs.Sizes.{natural}
 use Rattle.rules.specs.Answers.{Number}
 use Rattle.rules.specs.Solids.{between}
 use Rattle.rules.specs.Decimals.{value}
@@ -66,18 +69,29 @@ module _ (part : List ℕ) where
       by false e s = rw (e, signed) refl
 
 -- ---- the sign
-abbrev opposite : ℤ → ℤ
-opposite v = pos 0 -ℤ to_z w64 (of_z w64 v)
+module _ {v : ℤ} (f : SFits w64 v) (h : pos 0 ≤ℤ v) where
+  opposite-is : pos 0 -ℤ to_z w64 (of_z w64 v) ≡ neg_ℤ v
+  opposite-is = ap (λ (z : ℤ). pos 0 -ℤ z) (to_z-of_z f) ∙ +ℤ_idl (neg_ℤ v)
 
-opposite-minus : {v : ℤ} (part : List ℕ) → SFits w64 v → Some v ≡ digits_of part → opposite v ≡ minus (value 0 part)
-opposite-minus part f d = ap (λ (z : ℤ). pos 0 -ℤ z) (to_z-of_z f ∙ (some_digits part d).1) ∙ +ℤ_idl (minus (value 0 part))
+  pub opposite-fits : SFits w64 (pos 0 -ℤ to_z w64 (of_z w64 v))
+  opposite-fits = subst (SFits w64) (sym (opposite-is ∙ ap neg_ℤ (sym (natural h)))) (small (nat_abs v) (subst (SFits w64) (sym (natural h)) f))
+    where
+      small : (n : ℕ) → SFits w64 (pos n) → SFits w64 (minus n)
+      small zero k = k
+      small (suc n) k = record { sfits = let l = k.sfits in omega arith }
 
-pub opposite-fits : {v : ℤ} (part : List ℕ) → SFits w64 v → Some v ≡ digits_of part → SFits w64 (opposite v)
-opposite-fits part f d = subst (SFits w64) (sym (opposite-minus part f d)) (small (value 0 part) (subst (SFits w64) (some_digits part d).1 f))
-  where
-    small : (n : ℕ) → SFits w64 (pos n) → SFits w64 (minus n)
-    small zero h = h
-    small (suc k) h = record { sfits = let l = h.sfits in omega arith }
+  pub opposite-back : to_z w64 (of_z w64 (pos 0 -ℤ to_z w64 (of_z w64 v))) ≡ neg_ℤ v
+  opposite-back = to_z-of_z opposite-fits ∙ opposite-is
+
+  -- -0 is a number: for an edit, which is to be refused for that, not for setting 0 apart
+  pub opposite-zero : of_z w64 v ≡ 0 → within32 (neg_ℤ v) ≡ Some (pos 0)
+  unfolding within32 between
+  opposite-zero e = ap (λ (z : ℤ). within32 (neg_ℤ z)) (sym (to_z-of_z f) ∙ ap (to_z w64) e)
+
+pub ruleset opposite = (opposite-fits, opposite-back, opposite-zero)
+
+pub no_minus : {v : ℤ} (part : List ℕ) → SFits w64 v → Some v ≡ digits_of part → pos 0 ≤ℤ to_z w64 (of_z w64 v)
+no_minus part f d = subst (λ (z : ℤ). pos 0 ≤ℤ z) (sym (to_z-of_z f ∙ (some_digits part d).1)) (search rules)
 
 module _ {part : List ℕ} where
   pub empty : {t : Bool} → t ≡ eqb (length part) 0 → t ≡ true → NumberRead part None
@@ -109,8 +123,8 @@ module _ {part : List ℕ} where
       pub plus-some : get_or part 0 0 ≢ 45 → Some v ≡ digits_of part → r ≡ within32 (to_z w64 (of_z w64 v)) → NumberRead part r
       plus-some e d n = without-minus e (n ∙ ap within32 (to_z-of_z f ∙ (some_digits part d).1) ∙ sym (signed_some part pos d))
 
-      pub minus-some : get_or part 0 0 ≡ 45 → Some v ≡ digits_of (take (length part - 1) (drop 1 part)) → r ≡ within32 (to_z w64 (of_z w64 (opposite v))) → NumberRead part r
+      pub minus-some : get_or part 0 0 ≡ 45 → Some v ≡ digits_of (take (length part - 1) (drop 1 part)) → r ≡ within32 (neg_ℤ (to_z w64 (of_z w64 v))) → NumberRead part r
       minus-some e d n =
           let all = take_all (length part - 1) (drop 1 part) (simp length-drop (omega arith)) in
           let plain = rw all at d in
-          of_minus e (n ∙ ap within32 (to_z-of_z (opposite-fits _ f d) ∙ opposite-minus (drop 1 part) f plain) ∙ sym (signed_some (drop 1 part) minus plain))
+          of_minus e (n ∙ ap (λ (z : ℤ). within32 (neg_ℤ z)) (to_z-of_z f ∙ (some_digits (drop 1 part) plain).1) ∙ sym (signed_some (drop 1 part) minus plain))

@@ -1,7 +1,7 @@
 // A line of the session: from its bytes to what it asks.
 #![tactic(auto)]
 
-ghost use Rattle.std.specs.Prelude.{◌≡◌, ◌≤◌, length, eqb};
+ghost use Rattle.std.specs.Prelude.{◌≡◌, ◌≤◌, pos, neg_ℤ, ◌≤ℤ◌, length, eqb};
 ghost use Rattle.std.specs.List.{position_or_len};
 ghost use Rattle.line.specs.Reading.{PartEnds, digits_of, NumberRead, Reads, next_wedge, next_three, LineRead};
 ghost use Rattle.rules.specs.Session.{within32, next};
@@ -48,6 +48,15 @@ fn within32(z: i64) -> Option<i32>
     i32::try_from(z).ok()
 }
 
+// The number under a minus, if 32 bits hold it; -0 is one.
+#[tactic(auto, using(crate::proofs::Numbers::opposite))]
+fn negative(v: i64) -> Option<i32>
+    requires { pos 0 ≤ℤ v }
+    ensures { result ≡ within32 (neg_ℤ v) }
+{
+    within32(-v)
+}
+
 fn read_number(part: &[u8]) -> Option<i32>
     ensures { NumberRead part.now result }
 {
@@ -55,7 +64,7 @@ fn read_number(part: &[u8]) -> Option<i32>
         return None;
     }
     if part[0] == b'-' {
-        return within32(-read_digits(&part[1..])?);
+        return negative(read_digits(&part[1..])?);
     }
     within32(read_digits(part)?)
 }

@@ -1,6 +1,6 @@
 -- The loop that judges the images: what is left is judged to, with the images before it, is what all are judged to.
 use Rattle.std.specs.Prelude.{◌≡◌, refl, List, ◌++◌, ℕ, suc, ◌+◌, ◌-◌, ◌≤◌, ◌<◌, length, drop, Result, Ok, Err}
-use Rattle.std.proofs.Common.{sym, ap, ◌∙◌, arith, zero-add}
+use Rattle.std.proofs.Common.{sym, ap, ◌∙◌, arith, zero-add, Fits, w64}
 use Rattle.rules.specs.declared.RefusedStack.{RefusedStack}
 use Rattle.rules.specs.Solids.{slice_bytes}
 use Rattle.rules.specs.P4.{Judged, good, wrong, ◌>>=◌, rows, image_at, images_at}
@@ -33,6 +33,9 @@ preceded-more z left w h s i = by (images_at left w h s (i + slice_bytes w h))
 -- an image's rows are inside
 pub rows_in : {w h : ℕ} {s : List ℕ} {at i : ℕ} {r : Result ℕ RefusedStack} → ImageIs w h s at r → r ≡ Ok i → i + slice_bytes w h ≤ length s
 rows_in {w} {h} {s} {at} F e = image-in w h s at (sym F.is ∙ ap judged_place e)
+
+pub place_fits : {w h c : ℕ} {s : List ℕ} {at i : ℕ} {r : Result ℕ RefusedStack} → ImageIs w h s at r → r ≡ Ok i → SliceBytes w h c → Fits w64 (length s) → Fits w64 (i + c)
+place_fits F e C k = let x = rows_in F e in omega (arith, x, C.is, k.fits)
 
 -- ---- the images at a place and behind it, by the first of them
 pub images-next : (w h : ℕ) (s : List ℕ) {at z : ℕ} → z < 256 → (at ≡ length s → ⊥) → images_at (256 - z) w h s at ≡ (image_at w h s at >>= followed (256 - (z + 1)) w h s)
@@ -70,15 +73,17 @@ module _ {w h : ℕ} {s : List ℕ} {at z : ℕ} (K : Keeping w h s at z) where
     unfolding preceded
     keeping-not F = judged-to (images-next w h s few more ∙ off _ (sym F.is)) refl
 
-    pub keeping-next : {i c : ℕ} → ImageIs w h s at (Ok i) → SliceBytes w h c → Keeping w h s (i + c) (z + 1)
-    keeping-next {i} {c} F C =
+    pub keeping-next : {i c : ℕ} {r : Result ℕ RefusedStack} → ImageIs w h s at r → r ≡ Ok i → SliceBytes w h c → Keeping w h s (i + c) (z + 1)
+    keeping-next {i} {c} F e C =
         let size = C.is in
         let left = 256 - (z + 1) in
         record {
-          inside = let x = rows_in F refl in omega arith;
+          inside = let x = rows_in F e in omega arith;
           rest =
               (λ j. preceded (z + 1) (depth_read (images_at left w h s (i + size j))))
               ∙ sym (preceded-more z left w h s i)
-              ∙ ap (λ (x : Judged (ℕ × List ℕ)). preceded z (depth_read x)) (sym (images-next w h s few more ∙ on _ (sym F.is)))
+              ∙ ap (λ (x : Judged (ℕ × List ℕ)). preceded z (depth_read x)) (sym (images-next w h s few more ∙ on _ (sym F.is ∙ ap judged_place e)))
               ∙ K.rest;
         }
+
+pub ruleset images_refused = (keeping-not)

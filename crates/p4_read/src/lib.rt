@@ -37,6 +37,7 @@ fn find_rows(src: &[u8], at: usize, size: SliceSize) -> Result<usize, RefusedSta
 }
 
 // How many images there are, each of which must have this size.
+#[tactic(auto, using(crate::proofs::Keeping::images_refused))]
 fn judge_images(src: &[u8], size: SliceSize) -> Result<usize, RefusedStack>
     ensures { ImagesAre size.width size.height src.now result }
 {

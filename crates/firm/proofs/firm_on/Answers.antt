@@ -1,6 +1,6 @@
--- `firm::firm_solid` meets its promise: by the three tests before the answer.
+-- `firm::firm_on` meets its contract: by the three tests before the answer.
 use Rattle.firm.proofs.Answers.{on, reach-low}
-use Rattle.firm.proofs.firm_solid.Goals as goal
+use Rattle.firm.proofs.firm_on.Goals as goal
 
 pub returns-then-not-is_between : goal.returns-then-not-is_between
 returns-then-not-is_between c = search on
