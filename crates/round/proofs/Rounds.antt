@@ -6,7 +6,6 @@ use Rattle.rules.specs.declared.Vector.{Vector}
 use Rattle.rules.specs.declared.Levels.{Levels}
 use Rattle.rules.specs.declared.Triangle.{Triangle}
 use Rattle.rules.specs.declared.Pair.{Pair}
-use Rattle.rules.specs.declared.Pair.TheVariants.{P21}
 use Rattle.rules.specs.Answers.{Choice}
 use Rattle.rules.specs.Vectors.{dot, lay}
 use Rattle.rules.specs.Asked.{Asked, answered, ◌>>=◌}
@@ -102,9 +101,9 @@ module _ {c : Probe} {m : Triangle} {level : Levels} {looks : ℕ} where
     pub asking-few : Countable 6 looks → i < 6 → Countable 1 k.looks
     asking-few e l = omega (arith, h.few)
 
-    module _ {x : Pair} (p : x ≡ get_or pairs i P21) (l : i < 6) {b : Bool} (t : b ≡ takes_part level x) where
+    module _ {x : Pair} (d : Pair) (p : x ≡ get_or pairs i d) (l : i < 6) {b : Bool} (t : b ≡ takes_part level x) where
       pairs-from : drop i pairs ≡ x ∷ drop (i + 1) pairs
-      pairs-from = rw (p, add-one, drop-cons pairs i P21 l)
+      pairs-from = rw (p, add-one, drop-cons pairs i d l)
 
       pub asking-passed : b ≡ false → Asking c m level looks (i + 1) k
       unfolding only keep

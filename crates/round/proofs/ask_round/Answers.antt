@@ -14,13 +14,13 @@ ask_way-requires c =
 
 pub returns-in_err-round : goal.returns-in_err-round
 returns-in_err-round c =
-    let h = asking-stopped c.loop-number.invariant c.pair_at-pair.ensures c.loop-number-test.true c.takes_part.ensures c.if-takes_part.true c.ask_way.ensures c.in_err-round.was in
+    let h = asking-stopped c.loop-number.invariant _ c.pair_at-pair.ensures c.loop-number-test.true c.takes_part.ensures c.if-takes_part.true c.ask_way.ensures c.in_err-round.was in
     search (rules, h)
 
 pub loop-number-preserved : goal.loop-number-preserved
 loop-number-preserved c =
     elim c.if-takes_part.branch [
-      | then-takes_part+in_ok-round w ↦ rw w.round-is (asking-on c.loop-number.invariant c.pair_at-pair.ensures c.loop-number-test.true c.takes_part.ensures w.if-takes_part.true w.ask_way.ensures w.in_ok-round.was)
+      | then-takes_part+in_ok-round w ↦ rw w.round-is (asking-on c.loop-number.invariant _ c.pair_at-pair.ensures c.loop-number-test.true c.takes_part.ensures w.if-takes_part.true w.ask_way.ensures w.in_ok-round.was)
       | else-takes_part w ↦ rw w.round-is (search asking)
     ]
 
