@@ -10,9 +10,10 @@ use Rattle.rules.specs.declared.Axis.{Axis}
 use Rattle.rules.specs.declared.Axis.TheVariants.{Axis0 as axis0, Axis1 as axis1, Axis2 as axis2}
 use Rattle.rules.specs.Vectors.{vector, dot, lay}
 use Rattle.rules.specs.Walk.{triangle, unit}
-use Rattle.laws.specs.Parts.{part, part-lay, dot-unit}
+use Rattle.laws.specs.Parts.{part, part_of, part-lay, dot-unit}
 use Rattle.laws.specs.Frames.{IsSign, Signs, lay-lay, lay-dot}
 use Rattle.laws.specs.Bounds.{Bounded}
+use Rattle.axis.specs.Along.{part-within}
 use Rattle.falls.specs.declared.Scene.{Scene}
 use Rattle.falls.specs.Scene.{Ready}
 use Rattle.falls.specs.Sizes.{sign-bounded, scene-ranks}
@@ -23,11 +24,11 @@ use Rattle.walk.specs.Walk.{IsUnit, Units}
 
 -- ---- as the code computes
 module _ {a b : ℤ} (s : IsSign a) (h : Within 65536 b) where
-  pub rank-fits : SFits w32 (from_bits a *ℤ from_bits b)
-  rank-fits = let k = sign-bounded a s in fits (search machine depth 30 fits 5000) tt
+  pub product-fits : SFits w32 (from_bits a *ℤ from_bits b)
+  product-fits = let k = sign-bounded a s in fits (search machine depth 30 fits 5000) tt
 
-  rank-read : from_bits (from_bits a *ℤ from_bits b) ≡ a *ℤ b
-  rank-read = let k = sign-bounded a s in value (search machine depth 30 fits 5000) tt
+  product-read : from_bits (from_bits a *ℤ from_bits b) ≡ a *ℤ b
+  product-read = let k = sign-bounded a s in value (search machine depth 30 fits 5000) tt
 
 sign-read : {a : ℤ} → IsSign a → from_bits a ≡ a
 sign-read {a} s = let k = sign-bounded a s in value (search machine depth 30 fits 5000) tt
@@ -46,9 +47,22 @@ module _ {s r : Vector} (k : Axis) {u : Vector} {z : ℤ} (e : u ≡ lay s (unit
   is-unit : IsUnit s r k (record { at = u; rank = z })
   is-unit = record { is = e; ranked = q ∙ rank-of-unit s r k ∙ ap (dot r) (sym e) }
 
+module _ {s r : Vector} {a b : ℤ} (g : Signs s) (h : Bounded 65536 r) (k : Axis) (p : a ≡ part k s) (q : b ≡ part k r) where
+  sign : IsSign a
+  sign = rw p (part_of g k)
+
+  small : Within 65536 b
+  small = rw q (part-within h k)
+
+  pub rank-fits : SFits w32 (from_bits a *ℤ from_bits b)
+  rank-fits = product-fits sign small
+
+  pub unit-made : {u v : Vector} → u ≡ unit k → v ≡ lay s u → IsUnit s r k (record { at = v; rank = from_bits (from_bits a *ℤ from_bits b) })
+  unit-made e f = is-unit k (f ∙ ap (lay s) e) (product-read sign small ∙ rw (p, q) refl)
+
 -- ---- all of them
-all-made : {s r : Vector} {a b c : Corner} → Signs s → IsUnit s r axis0 a → IsUnit s r axis1 b → IsUnit s r axis2 c → Units s r (a ∷ b ∷ c ∷ [])
-all-made {s} g x y z = record {
+pub units-made : {s r : Vector} {a b c : Corner} → Signs s → IsUnit s r axis0 a → IsUnit s r axis1 b → IsUnit s r axis2 c → Units s r (a ∷ b ∷ c ∷ [])
+units-made {s} g x y z = record {
   are = λ i. triangle (at_unit x i) (at_unit y i) (at_unit z i);
   ranked = record { rank0 = x.ranked; rank1 = y.ranked; rank2 = z.ranked };
   whole = refl;
@@ -57,16 +71,16 @@ all-made {s} g x y z = record {
     at_unit : {r : Vector} {k : Axis} {a : Corner} → IsUnit s r k a → lay s a.at ≡ unit k
     at_unit {k = k} h = ap (lay s) h.is ∙ lay-lay s (unit k) g
 
-pub units-made : {s r : Vector} → Signs s → Bounded 65536 r
+pub vectors-made : {s r : Vector} → Signs s → Bounded 65536 r
     → Units s r (corner (vector (from_bits s.x) (pos 0) (pos 0)) (from_bits (from_bits s.x *ℤ from_bits r.x))
     ∷ corner (vector (pos 0) (from_bits s.y) (pos 0)) (from_bits (from_bits s.y *ℤ from_bits r.y))
     ∷ corner (vector (pos 0) (pos 0) (from_bits s.z)) (from_bits (from_bits s.z *ℤ from_bits r.z)) ∷ [])
 unfolding lay
-units-made {s} {r} g h =
-    all-made g
-    (is-unit axis0 (λ i. vector ((sign-read g.of_x ∙ once s.x) i) (never s.y i) (never s.z i)) (rank-read g.of_x h.in-x))
-    (is-unit axis1 (λ i. vector (never s.x i) ((sign-read g.of_y ∙ once s.y) i) (never s.z i)) (rank-read g.of_y h.in-y))
-    (is-unit axis2 (λ i. vector (never s.x i) (never s.y i) ((sign-read g.of_z ∙ once s.z) i)) (rank-read g.of_z h.in-z))
+vectors-made {s} {r} g h =
+    units-made g
+    (unit-made g h axis0 refl refl refl (λ i. vector ((sign-read g.of_x ∙ once s.x) i) (never s.y i) (never s.z i)))
+    (unit-made g h axis1 refl refl refl (λ i. vector (never s.x i) ((sign-read g.of_y ∙ once s.y) i) (never s.z i)))
+    (unit-made g h axis2 refl refl refl (λ i. vector (never s.x i) (never s.y i) ((sign-read g.of_z ∙ once s.z) i)))
 
 -- ---- what a scene has of them
 pub scene-fits : {v : Scene} {bytes : List ℕ} → Ready v bytes → Signs v.signs × Bounded 65536 v.grid.ranks
