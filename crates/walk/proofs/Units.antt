@@ -47,6 +47,7 @@ module _ {s r : Vector} (k : Axis) {u : Vector} {z : ℤ} (e : u ≡ lay s (unit
   is-unit : IsUnit s r k (record { at = u; rank = z })
   is-unit = record { is = e; ranked = q ∙ rank-of-unit s r k ∙ ap (dot r) (sym e) }
 
+-- of any axis, for what computes one of them by itself
 module _ {s r : Vector} {a b : ℤ} (g : Signs s) (h : Bounded 65536 r) (k : Axis) (p : a ≡ part k s) (q : b ≡ part k r) where
   sign : IsSign a
   sign = rw p (part_of g k)
